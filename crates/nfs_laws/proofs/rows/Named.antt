@@ -15,7 +15,8 @@ use Rattle.nfs_laws.proofs.rows.Checked.{pair_of, shown_of, directory_changed, d
 
 owner_creates_by_its_w_and_x :
     (serial (tree_of (octal 0 3 0 0) 8) (Ask (Create (h 2) a (Guarded no_attributes)) owner) (at 2) false).reply
-    ≡ Success (MadeDone (h 4) (record (shown_of (file_shown 4 0 0 2 2) (octal 0 6 4 4) 7 70) { atime = at 2 }) (directory_changed 2 (octal 0 3 0 0) 2))
+    ≡ Success (MadeDone (h 4) (record (shown_of (file_shown 4 0 0 2 2) (octal 0 6 4 4) 7 70) { atime = at 2 })
+    (directory_changed 2 (octal 0 3 0 0) 2))
 owner_creates_by_its_w_and_x = simp evaluate refl
 
 owner_without_w_does_not_create :
@@ -30,7 +31,8 @@ owner_without_x_does_not_create = simp evaluate refl
 
 member_creates_by_its_w_and_x :
     (serial (tree_of (octal 0 0 3 0) 8) (Ask (Create (h 2) a (Guarded no_attributes)) member) (at 2) false).reply
-    ≡ Success (MadeDone (h 4) (record (shown_of (file_shown 4 0 0 2 2) (octal 0 6 4 4) 8 70) { atime = at 2 }) (directory_changed 2 (octal 0 0 3 0) 2))
+    ≡ Success (MadeDone (h 4) (record (shown_of (file_shown 4 0 0 2 2) (octal 0 6 4 4) 8 70) { atime = at 2 })
+    (directory_changed 2 (octal 0 0 3 0) 2))
 member_creates_by_its_w_and_x = simp evaluate refl
 
 member_without_w_does_not_create :
@@ -40,7 +42,8 @@ member_without_w_does_not_create = simp evaluate refl
 
 further_group_creates_by_its_w_and_x :
     (serial (tree_of (octal 0 0 3 0) 8) (Ask (Create (h 2) a (Guarded no_attributes)) further) (at 2) false).reply
-    ≡ Success (MadeDone (h 4) (record (shown_of (file_shown 4 0 0 2 2) (octal 0 6 4 4) 9 90) { atime = at 2 }) (directory_changed 2 (octal 0 0 3 0) 2))
+    ≡ Success (MadeDone (h 4) (record (shown_of (file_shown 4 0 0 2 2) (octal 0 6 4 4) 9 90) { atime = at 2 })
+    (directory_changed 2 (octal 0 0 3 0) 2))
 further_group_creates_by_its_w_and_x = simp evaluate refl
 
 further_group_without_w_does_not_create :
@@ -50,7 +53,8 @@ further_group_without_w_does_not_create = simp evaluate refl
 
 sixteenth_further_group_creates_by_its_w_and_x :
     (serial (tree_of (octal 0 0 3 0) 8) (Ask (Create (h 2) a (Guarded no_attributes)) sixteenth) (at 2) false).reply
-    ≡ Success (MadeDone (h 4) (record (shown_of (file_shown 4 0 0 2 2) (octal 0 6 4 4) 9 90) { atime = at 2 }) (directory_changed 2 (octal 0 0 3 0) 2))
+    ≡ Success (MadeDone (h 4) (record (shown_of (file_shown 4 0 0 2 2) (octal 0 6 4 4) 9 90) { atime = at 2 })
+    (directory_changed 2 (octal 0 0 3 0) 2))
 sixteenth_further_group_creates_by_its_w_and_x = simp evaluate refl
 
 sixteenth_further_group_without_w_does_not_create :
@@ -60,7 +64,8 @@ sixteenth_further_group_without_w_does_not_create = simp evaluate refl
 
 others_create_by_their_w_and_x :
     (serial (tree_of (octal 0 0 0 3) 8) (Ask (Create (h 2) a (Guarded no_attributes)) other) (at 2) false).reply
-    ≡ Success (MadeDone (h 4) (record (shown_of (file_shown 4 0 0 2 2) (octal 0 6 4 4) 9 90) { atime = at 2 }) (directory_changed 2 (octal 0 0 0 3) 2))
+    ≡ Success (MadeDone (h 4) (record (shown_of (file_shown 4 0 0 2 2) (octal 0 6 4 4) 9 90) { atime = at 2 })
+    (directory_changed 2 (octal 0 0 0 3) 2))
 others_create_by_their_w_and_x = simp evaluate refl
 
 others_without_w_do_not_create :
@@ -126,13 +131,15 @@ create_of_dot_dot_with_x = simp evaluate refl
 
 create_with_a_bad_time_without_w :
     (serial (tree_of (octal 0 7 7 5) 8)
-    (Ask (Create (h 2) a (Guarded (record no_attributes { atime = ClientTime (record { seconds = 1; nanoseconds = 1000000000 }) }))) other) (at 2) false).reply
+    (Ask (Create (h 2) a (Guarded (record no_attributes { atime = ClientTime (record { seconds = 1; nanoseconds = 1000000000 }) }))) other)
+    (at 2) false).reply
     ≡ fails Access 2
 create_with_a_bad_time_without_w = simp evaluate refl
 
 create_with_a_bad_time_with_w :
     (serial (tree_of (octal 0 0 0 3) 8)
-    (Ask (Create (h 2) a (Guarded (record no_attributes { atime = ClientTime (record { seconds = 1; nanoseconds = 1000000000 }) }))) other) (at 2) false).reply
+    (Ask (Create (h 2) a (Guarded (record no_attributes { atime = ClientTime (record { seconds = 1; nanoseconds = 1000000000 }) }))) other)
+    (at 2) false).reply
     ≡ fails Invalid 2
 create_with_a_bad_time_with_w = simp evaluate refl
 
@@ -558,25 +565,29 @@ rename_of_what_is_not_there_without_w :
 rename_of_what_is_not_there_without_w = simp evaluate refl
 
 rename_of_a_directory_over_a_file_without_w :
-    (serial (pair_of (octal 0 7 7 5) (octal 0 0 0 3) (Directory (record { attributes = owned (octal 0 7 7 7) 8 70; parent = 2; next = 3; list = [] })) 8)
+    (serial (pair_of (octal 0 7 7 5) (octal 0 0 0 3) (Directory
+    (record { attributes = owned (octal 0 7 7 7) 8 70; parent = 2; next = 3; list = [] })) 8)
     (Ask (Rename (h 2) a (h 3) b) other) (at 2) false).reply
     ≡ fails Access 4
 rename_of_a_directory_over_a_file_without_w = simp evaluate refl
 
 rename_of_a_directory_over_a_file_with_w :
-    (serial (pair_of (octal 0 0 0 3) (octal 0 0 0 3) (Directory (record { attributes = owned (octal 0 7 7 7) 8 70; parent = 2; next = 3; list = [] })) 8)
+    (serial (pair_of (octal 0 0 0 3) (octal 0 0 0 3) (Directory
+    (record { attributes = owned (octal 0 7 7 7) 8 70; parent = 2; next = 3; list = [] })) 8)
     (Ask (Rename (h 2) a (h 3) b) other) (at 2) false).reply
     ≡ fails Exists 4
 rename_of_a_directory_over_a_file_with_w = simp evaluate refl
 
 rename_of_a_directory_below_itself_without_w :
-    (serial (pair_of (octal 0 7 7 5) (octal 0 0 0 3) (Directory (record { attributes = owned (octal 0 7 7 7) 8 70; parent = 2; next = 3; list = [] })) 8)
+    (serial (pair_of (octal 0 7 7 5) (octal 0 0 0 3) (Directory
+    (record { attributes = owned (octal 0 7 7 7) 8 70; parent = 2; next = 3; list = [] })) 8)
     (Ask (Rename (h 2) a (h 4) a) other) (at 2) false).reply
     ≡ fails Access 4
 rename_of_a_directory_below_itself_without_w = simp evaluate refl
 
 rename_of_a_directory_below_itself_with_w :
-    (serial (pair_of (octal 0 0 0 3) (octal 0 0 0 3) (Directory (record { attributes = owned (octal 0 7 7 7) 8 70; parent = 2; next = 3; list = [] })) 8)
+    (serial (pair_of (octal 0 0 0 3) (octal 0 0 0 3) (Directory
+    (record { attributes = owned (octal 0 7 7 7) 8 70; parent = 2; next = 3; list = [] })) 8)
     (Ask (Rename (h 2) a (h 4) a) other) (at 2) false).reply
     ≡ fails Invalid 4
 rename_of_a_directory_below_itself_with_w = simp evaluate refl
@@ -656,31 +667,38 @@ uid_0_renames_over_a_file_in_a_sticky_directory = simp evaluate refl
 
 -- a directory that moves
 directory_that_moves_to_another_needs_w_of_itself :
-    (serial (pair_of (octal 0 0 0 3) (octal 0 0 0 3) (Directory (record { attributes = owned (octal 0 7 7 5) 8 70; parent = 2; next = 3; list = [] })) 8)
+    (serial (pair_of (octal 0 0 0 3) (octal 0 0 0 3) (Directory
+    (record { attributes = owned (octal 0 7 7 5) 8 70; parent = 2; next = 3; list = [] })) 8)
     (Ask (Rename (h 2) a (h 3) a) other) (at 2) false).reply
     ≡ fails Access 4
 directory_that_moves_to_another_needs_w_of_itself = simp evaluate refl
 
 directory_with_w_of_itself_moves_to_another :
-    (serial (pair_of (octal 0 0 0 3) (octal 0 0 0 3) (Directory (record { attributes = owned (octal 0 0 0 2) 8 70; parent = 2; next = 3; list = [] })) 8)
+    (serial (pair_of (octal 0 0 0 3) (octal 0 0 0 3) (Directory
+    (record { attributes = owned (octal 0 0 0 2) 8 70; parent = 2; next = 3; list = [] })) 8)
     (Ask (Rename (h 2) a (h 3) a) other) (at 2) false).reply
-    ≡ Success (RenameDone (changed (before 4096 1 1) (record (shown_of (directory_shown 2 2 2) (octal 0 0 0 3) 7 70) { atime = at 1 })) (changed (before 4096 1 1) (record (shown_of (directory_shown 3 3 2) (octal 0 0 0 3) 7 70) { atime = at 1 })))
+    ≡ Success (RenameDone (changed (before 4096 1 1) (record (shown_of (directory_shown 2 2 2) (octal 0 0 0 3) 7 70) { atime = at 1 }))
+    (changed (before 4096 1 1) (record (shown_of (directory_shown 3 3 2) (octal 0 0 0 3) 7 70) { atime = at 1 })))
 directory_with_w_of_itself_moves_to_another = simp evaluate refl
 
 owner_without_w_of_a_directory_does_not_move_it :
-    (serial (pair_of (octal 0 3 0 0) (octal 0 3 0 0) (Directory (record { attributes = owned (octal 0 5 7 7) 7 70; parent = 2; next = 3; list = [] })) 8)
+    (serial (pair_of (octal 0 3 0 0) (octal 0 3 0 0) (Directory
+    (record { attributes = owned (octal 0 5 7 7) 7 70; parent = 2; next = 3; list = [] })) 8)
     (Ask (Rename (h 2) a (h 3) a) owner) (at 2) false).reply
     ≡ fails Access 4
 owner_without_w_of_a_directory_does_not_move_it = simp evaluate refl
 
 uid_0_moves_a_directory_to_another :
-    (serial (pair_of (octal 0 0 0 3) (octal 0 0 0 3) (Directory (record { attributes = owned (octal 0 0 0 0) 8 70; parent = 2; next = 3; list = [] })) 8)
+    (serial (pair_of (octal 0 0 0 3) (octal 0 0 0 3) (Directory
+    (record { attributes = owned (octal 0 0 0 0) 8 70; parent = 2; next = 3; list = [] })) 8)
     (Ask (Rename (h 2) a (h 3) a) uid_0) (at 2) false).reply
-    ≡ Success (RenameDone (changed (before 4096 1 1) (record (shown_of (directory_shown 2 2 2) (octal 0 0 0 3) 7 70) { atime = at 1 })) (changed (before 4096 1 1) (record (shown_of (directory_shown 3 3 2) (octal 0 0 0 3) 7 70) { atime = at 1 })))
+    ≡ Success (RenameDone (changed (before 4096 1 1) (record (shown_of (directory_shown 2 2 2) (octal 0 0 0 3) 7 70) { atime = at 1 }))
+    (changed (before 4096 1 1) (record (shown_of (directory_shown 3 3 2) (octal 0 0 0 3) 7 70) { atime = at 1 })))
 uid_0_moves_a_directory_to_another = simp evaluate refl
 
 directory_that_stays_needs_no_w_of_itself :
-    (serial (pair_of (octal 0 0 0 3) (octal 0 0 0 3) (Directory (record { attributes = owned (octal 0 0 0 0) 8 70; parent = 2; next = 3; list = [] })) 8)
+    (serial (pair_of (octal 0 0 0 3) (octal 0 0 0 3) (Directory
+    (record { attributes = owned (octal 0 0 0 0) 8 70; parent = 2; next = 3; list = [] })) 8)
     (Ask (Rename (h 2) a (h 2) x) other) (at 2) false).reply
     ≡ Success (RenameDone (directory_changed 2 (octal 0 0 0 3) 3) (directory_changed 2 (octal 0 0 0 3) 3))
 directory_that_stays_needs_no_w_of_itself = simp evaluate refl

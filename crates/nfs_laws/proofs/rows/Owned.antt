@@ -199,7 +199,8 @@ uid_0_sets_mtime = simp evaluate refl
 
 others_set_a_size_by_w :
     (serial (file_of (octal 0 0 0 2)) (Ask (Setattr (h 2) (record no_attributes { size = Some 0 }) None) other) (at 2) false).reply
-    ≡ Success (SetattrDone (changed (before 1 1 1) (record (shown_of (file_shown 2 1 4096 1 2) (octal 0 0 0 2) 7 70) { size = 0; used = 0; mtime = at 2 })))
+    ≡ Success (SetattrDone (changed (before 1 1 1) (record (shown_of (file_shown 2 1 4096 1 2)
+    (octal 0 0 0 2) 7 70) { size = 0; used = 0; mtime = at 2 })))
 others_set_a_size_by_w = simp evaluate refl
 
 others_set_no_size_without_w :
@@ -209,12 +210,14 @@ others_set_no_size_without_w = simp evaluate refl
 
 owner_sets_a_size_without_w :
     (serial (file_of (octal 0 0 0 0)) (Ask (Setattr (h 2) (record no_attributes { size = Some 0 }) None) owner) (at 2) false).reply
-    ≡ Success (SetattrDone (changed (before 1 1 1) (record (shown_of (file_shown 2 1 4096 1 2) (octal 0 0 0 0) 7 70) { size = 0; used = 0; mtime = at 2 })))
+    ≡ Success (SetattrDone (changed (before 1 1 1) (record (shown_of (file_shown 2 1 4096 1 2)
+    (octal 0 0 0 0) 7 70) { size = 0; used = 0; mtime = at 2 })))
 owner_sets_a_size_without_w = simp evaluate refl
 
 uid_0_sets_a_size_without_w :
     (serial (file_of (octal 0 0 0 0)) (Ask (Setattr (h 2) (record no_attributes { size = Some 0 }) None) uid_0) (at 2) false).reply
-    ≡ Success (SetattrDone (changed (before 1 1 1) (record (shown_of (file_shown 2 1 4096 1 2) (octal 0 0 0 0) 7 70) { size = 0; used = 0; mtime = at 2 })))
+    ≡ Success (SetattrDone (changed (before 1 1 1) (record (shown_of (file_shown 2 1 4096 1 2)
+    (octal 0 0 0 0) 7 70) { size = 0; used = 0; mtime = at 2 })))
 uid_0_sets_a_size_without_w = simp evaluate refl
 
 others_set_nothing_by_w :
@@ -241,7 +244,8 @@ others_give_a_mode_and_a_size_without_w = simp evaluate refl
 owner_gives_a_mode_and_a_size :
     (serial (file_of (octal 0 0 0 0))
     (Ask (Setattr (h 2) (record no_attributes { mode = Some (octal 0 6 0 0); size = Some 0 }) None) owner) (at 2) false).reply
-    ≡ Success (SetattrDone (changed (before 1 1 1) (record (shown_of (file_shown 2 1 4096 1 2) (octal 0 6 0 0) 7 70) { size = 0; used = 0; mtime = at 2 })))
+    ≡ Success (SetattrDone (changed (before 1 1 1) (record (shown_of (file_shown 2 1 4096 1 2)
+    (octal 0 6 0 0) 7 70) { size = 0; used = 0; mtime = at 2 })))
 owner_gives_a_mode_and_a_size = simp evaluate refl
 
 -- STALE, PERM or ACCES, NOT_SYNC, INVAL and FBIG come in this order
@@ -268,7 +272,8 @@ not_sync_comes_by_w = simp evaluate refl
 
 perm_comes_before_a_bad_time :
     (serial (file_of (octal 0 7 7 7))
-    (Ask (Setattr (h 2) (record no_attributes { atime = ClientTime (record { seconds = 1; nanoseconds = 1000000000 }) }) None) other) (at 2) false).reply
+    (Ask (Setattr (h 2) (record no_attributes { atime = ClientTime (record { seconds = 1; nanoseconds = 1000000000 }) }) None) other)
+    (at 2) false).reply
     ≡ fails NotPermitted 2
 perm_comes_before_a_bad_time = simp evaluate refl
 
@@ -449,17 +454,20 @@ write_that_is_refused_keeps_both = simp evaluate refl
 
 another_uid_is_not_taken :
     (serial (tree_of (octal 0 7 7 7) 8) (Ask (Create (h 2) a (Guarded (record no_attributes { uid = Some 8 }))) other) (at 2) false).reply
-    ≡ Success (MadeDone (h 4) (record (shown_of (file_shown 4 0 0 2 2) (octal 0 6 4 4) 9 90) { atime = at 2 }) (directory_changed 2 (octal 0 7 7 7) 2))
+    ≡ Success (MadeDone (h 4) (record (shown_of (file_shown 4 0 0 2 2) (octal 0 6 4 4) 9 90) { atime = at 2 })
+    (directory_changed 2 (octal 0 7 7 7) 2))
 another_uid_is_not_taken = simp evaluate refl
 
 uid_0_is_not_taken :
     (serial (tree_of (octal 0 7 7 7) 8) (Ask (Create (h 2) a (Guarded (record no_attributes { uid = Some 0 }))) other) (at 2) false).reply
-    ≡ Success (MadeDone (h 4) (record (shown_of (file_shown 4 0 0 2 2) (octal 0 6 4 4) 9 90) { atime = at 2 }) (directory_changed 2 (octal 0 7 7 7) 2))
+    ≡ Success (MadeDone (h 4) (record (shown_of (file_shown 4 0 0 2 2) (octal 0 6 4 4) 9 90) { atime = at 2 })
+    (directory_changed 2 (octal 0 7 7 7) 2))
 uid_0_is_not_taken = simp evaluate refl
 
 own_uid_is_taken :
     (serial (tree_of (octal 0 7 7 7) 8) (Ask (Create (h 2) a (Guarded (record no_attributes { uid = Some 9 }))) other) (at 2) false).reply
-    ≡ Success (MadeDone (h 4) (record (shown_of (file_shown 4 0 0 2 2) (octal 0 6 4 4) 9 90) { atime = at 2 }) (directory_changed 2 (octal 0 7 7 7) 2))
+    ≡ Success (MadeDone (h 4) (record (shown_of (file_shown 4 0 0 2 2) (octal 0 6 4 4) 9 90) { atime = at 2 })
+    (directory_changed 2 (octal 0 7 7 7) 2))
 own_uid_is_taken = simp evaluate refl
 
 uid_0_gives_another_uid :
@@ -469,78 +477,92 @@ uid_0_gives_another_uid = simp evaluate refl
 
 foreign_gid_is_not_taken :
     (serial (tree_of (octal 0 7 7 7) 8) (Ask (Create (h 2) a (Guarded (record no_attributes { gid = Some 70 }))) other) (at 2) false).reply
-    ≡ Success (MadeDone (h 4) (record (shown_of (file_shown 4 0 0 2 2) (octal 0 6 4 4) 9 90) { atime = at 2 }) (directory_changed 2 (octal 0 7 7 7) 2))
+    ≡ Success (MadeDone (h 4) (record (shown_of (file_shown 4 0 0 2 2) (octal 0 6 4 4) 9 90) { atime = at 2 })
+    (directory_changed 2 (octal 0 7 7 7) 2))
 foreign_gid_is_not_taken = simp evaluate refl
 
 further_gid_is_taken :
     (serial (tree_of (octal 0 7 7 7) 8) (Ask (Create (h 2) a (Guarded (record no_attributes { gid = Some 70 }))) further) (at 2) false).reply
-    ≡ Success (MadeDone (h 4) (record (shown_of (file_shown 4 0 0 2 2) (octal 0 6 4 4) 9 70) { atime = at 2 }) (directory_changed 2 (octal 0 7 7 7) 2))
+    ≡ Success (MadeDone (h 4) (record (shown_of (file_shown 4 0 0 2 2) (octal 0 6 4 4) 9 70) { atime = at 2 })
+    (directory_changed 2 (octal 0 7 7 7) 2))
 further_gid_is_taken = simp evaluate refl
 
 uid_0_gives_any_gid :
     (serial (tree_of (octal 0 7 7 7) 8) (Ask (Create (h 2) a (Guarded (record no_attributes { gid = Some 80 }))) uid_0) (at 2) false).reply
-    ≡ Success (MadeDone (h 4) (record (shown_of (file_shown 4 0 0 2 2) (octal 0 6 4 4) 0 80) { atime = at 2 }) (directory_changed 2 (octal 0 7 7 7) 2))
+    ≡ Success (MadeDone (h 4) (record (shown_of (file_shown 4 0 0 2 2) (octal 0 6 4 4) 0 80) { atime = at 2 })
+    (directory_changed 2 (octal 0 7 7 7) 2))
 uid_0_gives_any_gid = simp evaluate refl
 
 file_in_a_directory_with_02000_has_its_group :
     (serial (tree_of (octal 2 7 7 7) 8) (Ask (Create (h 2) a (Guarded no_attributes)) other) (at 2) false).reply
-    ≡ Success (MadeDone (h 4) (record (shown_of (file_shown 4 0 0 2 2) (octal 0 6 4 4) 9 70) { atime = at 2 }) (directory_changed 2 (octal 2 7 7 7) 2))
+    ≡ Success (MadeDone (h 4) (record (shown_of (file_shown 4 0 0 2 2) (octal 0 6 4 4) 9 70) { atime = at 2 })
+    (directory_changed 2 (octal 2 7 7 7) 2))
 file_in_a_directory_with_02000_has_its_group = simp evaluate refl
 
 file_of_uid_0_in_a_directory_with_02000_has_its_group :
     (serial (tree_of (octal 2 7 7 7) 8) (Ask (Create (h 2) a (Guarded no_attributes)) uid_0) (at 2) false).reply
-    ≡ Success (MadeDone (h 4) (record (shown_of (file_shown 4 0 0 2 2) (octal 0 6 4 4) 0 70) { atime = at 2 }) (directory_changed 2 (octal 2 7 7 7) 2))
+    ≡ Success (MadeDone (h 4) (record (shown_of (file_shown 4 0 0 2 2) (octal 0 6 4 4) 0 70) { atime = at 2 })
+    (directory_changed 2 (octal 2 7 7 7) 2))
 file_of_uid_0_in_a_directory_with_02000_has_its_group = simp evaluate refl
 
 foreign_gid_in_a_directory_with_02000_is_not_taken :
     (serial (tree_of (octal 2 7 7 7) 8) (Ask (Create (h 2) a (Guarded (record no_attributes { gid = Some 80 }))) other) (at 2) false).reply
-    ≡ Success (MadeDone (h 4) (record (shown_of (file_shown 4 0 0 2 2) (octal 0 6 4 4) 9 70) { atime = at 2 }) (directory_changed 2 (octal 2 7 7 7) 2))
+    ≡ Success (MadeDone (h 4) (record (shown_of (file_shown 4 0 0 2 2) (octal 0 6 4 4) 9 70) { atime = at 2 })
+    (directory_changed 2 (octal 2 7 7 7) 2))
 foreign_gid_in_a_directory_with_02000_is_not_taken = simp evaluate refl
 
 own_gid_in_a_directory_with_02000_is_taken :
     (serial (tree_of (octal 2 7 7 7) 8) (Ask (Create (h 2) a (Guarded (record no_attributes { gid = Some 90 }))) other) (at 2) false).reply
-    ≡ Success (MadeDone (h 4) (record (shown_of (file_shown 4 0 0 2 2) (octal 0 6 4 4) 9 90) { atime = at 2 }) (directory_changed 2 (octal 2 7 7 7) 2))
+    ≡ Success (MadeDone (h 4) (record (shown_of (file_shown 4 0 0 2 2) (octal 0 6 4 4) 9 90) { atime = at 2 })
+    (directory_changed 2 (octal 2 7 7 7) 2))
 own_gid_in_a_directory_with_02000_is_taken = simp evaluate refl
 
 exclusive_file_in_a_directory_with_02000_has_its_group :
     (serial (tree_of (octal 2 7 7 7) 8) (Ask (Create (h 2) a (Exclusive (replicate 8 1))) other) (at 2) false).reply
-    ≡ Success (MadeDone (h 4) (record (shown_of (file_shown 4 0 0 2 2) (octal 0 6 4 4) 9 70) { atime = at 2 }) (directory_changed 2 (octal 2 7 7 7) 2))
+    ≡ Success (MadeDone (h 4) (record (shown_of (file_shown 4 0 0 2 2) (octal 0 6 4 4) 9 70) { atime = at 2 })
+    (directory_changed 2 (octal 2 7 7 7) 2))
 exclusive_file_in_a_directory_with_02000_has_its_group = simp evaluate refl
 
 file_with_02000_of_its_own_group :
     (serial (tree_of (octal 0 7 7 7) 8)
     (Ask (Create (h 2) a (Guarded (record no_attributes { mode = Some (octal 6 7 5 5) }))) other) (at 2) false).reply
-    ≡ Success (MadeDone (h 4) (record (shown_of (file_shown 4 0 0 2 2) (octal 6 7 5 5) 9 90) { atime = at 2 }) (directory_changed 2 (octal 0 7 7 7) 2))
+    ≡ Success (MadeDone (h 4) (record (shown_of (file_shown 4 0 0 2 2) (octal 6 7 5 5) 9 90) { atime = at 2 })
+    (directory_changed 2 (octal 0 7 7 7) 2))
 file_with_02000_of_its_own_group = simp evaluate refl
 
 file_of_a_foreign_group_has_no_02000 :
     (serial (tree_of (octal 2 7 7 7) 8)
     (Ask (Create (h 2) a (Guarded (record no_attributes { mode = Some (octal 6 7 5 5) }))) other) (at 2) false).reply
-    ≡ Success (MadeDone (h 4) (record (shown_of (file_shown 4 0 0 2 2) (octal 4 7 5 5) 9 70) { atime = at 2 }) (directory_changed 2 (octal 2 7 7 7) 2))
+    ≡ Success (MadeDone (h 4) (record (shown_of (file_shown 4 0 0 2 2) (octal 4 7 5 5) 9 70) { atime = at 2 })
+    (directory_changed 2 (octal 2 7 7 7) 2))
 file_of_a_foreign_group_has_no_02000 = simp evaluate refl
 
 file_of_a_further_group_has_02000 :
     (serial (tree_of (octal 2 7 7 7) 8)
     (Ask (Create (h 2) a (Guarded (record no_attributes { mode = Some (octal 6 7 5 5) }))) further) (at 2) false).reply
-    ≡ Success (MadeDone (h 4) (record (shown_of (file_shown 4 0 0 2 2) (octal 6 7 5 5) 9 70) { atime = at 2 }) (directory_changed 2 (octal 2 7 7 7) 2))
+    ≡ Success (MadeDone (h 4) (record (shown_of (file_shown 4 0 0 2 2) (octal 6 7 5 5) 9 70) { atime = at 2 })
+    (directory_changed 2 (octal 2 7 7 7) 2))
 file_of_a_further_group_has_02000 = simp evaluate refl
 
 file_of_uid_0_of_a_foreign_group_has_02000 :
     (serial (tree_of (octal 2 7 7 7) 8)
     (Ask (Create (h 2) a (Guarded (record no_attributes { mode = Some (octal 6 7 5 5) }))) uid_0) (at 2) false).reply
-    ≡ Success (MadeDone (h 4) (record (shown_of (file_shown 4 0 0 2 2) (octal 6 7 5 5) 0 70) { atime = at 2 }) (directory_changed 2 (octal 2 7 7 7) 2))
+    ≡ Success (MadeDone (h 4) (record (shown_of (file_shown 4 0 0 2 2) (octal 6 7 5 5) 0 70) { atime = at 2 })
+    (directory_changed 2 (octal 2 7 7 7) 2))
 file_of_uid_0_of_a_foreign_group_has_02000 = simp evaluate refl
 
 times_of_the_client_are_taken :
     (serial (tree_of (octal 0 7 7 7) 8)
     (Ask (Create (h 2) a (Guarded (record no_attributes { atime = ClientTime (at 5); mtime = ClientTime (at 6) }))) other) (at 2) false).reply
-    ≡ Success (MadeDone (h 4) (record (shown_of (file_shown 4 0 0 2 2) (octal 0 6 4 4) 9 90) { atime = at 5; mtime = at 6 }) (directory_changed 2 (octal 0 7 7 7) 2))
+    ≡ Success (MadeDone (h 4) (record (shown_of (file_shown 4 0 0 2 2) (octal 0 6 4 4) 9 90) { atime = at 5; mtime = at 6 })
+    (directory_changed 2 (octal 0 7 7 7) 2))
 times_of_the_client_are_taken = simp evaluate refl
 
 unchecked_creation_of_a_new_file_takes_its_mode :
     (serial (tree_of (octal 0 7 7 7) 8)
     (Ask (Create (h 2) a (Unchecked (record no_attributes { mode = Some (octal 0 6 0 0); size = Some 3 }))) other) (at 2) false).reply
-    ≡ Success (MadeDone (h 4) (record (shown_of (file_shown 4 3 0 2 2) (octal 0 6 0 0) 9 90) { atime = at 2 }) (directory_changed 2 (octal 0 7 7 7) 2))
+    ≡ Success (MadeDone (h 4) (record (shown_of (file_shown 4 3 0 2 2) (octal 0 6 0 0) 9 90) { atime = at 2 })
+    (directory_changed 2 (octal 0 7 7 7) 2))
 unchecked_creation_of_a_new_file_takes_its_mode = simp evaluate refl
 
 -- ---- MKDIR: whose the new directory is
@@ -588,85 +610,121 @@ directory_in_one_without_02000_has_no_bit = simp evaluate refl
 -- ---- CREATE over a file that is there: what UNCHECKED sets is its size, by w
 
 creation_over_a_file_without_w_tells :
-    (serial (holding 4 ((1, root_with 4 (entry 3 d 2 ∷ [])) ∷ ((2, owned_directory (octal 0 0 0 1) 7 70 4 (entry 3 f 3 ∷ [])) ∷ ((3, owned_file (octal 0 6 0 0) 8 70) ∷ []))))
+    (serial (holding 4 ((1, root_with 4 (entry 3 d 2 ∷ [])) ∷
+    ((2, owned_directory (octal 0 0 0 1) 7 70 4 (entry 3 f 3 ∷ [])) ∷ ((3, owned_file (octal 0 6 0 0) 8 70) ∷ []))))
     (Ask (Create (h 2) f (Unchecked no_attributes)) other) (at 2) false).reply
     ≡ Success (MadeDone (h 3) (shown_of (file_shown 3 1 4096 1 1) (octal 0 6 0 0) 8 70) (directory_kept 2 (octal 0 0 0 1) 2))
 creation_over_a_file_without_w_tells = simp evaluate refl
 
 creation_over_a_file_without_a_size_changes_nothing :
-    (serial ((serial (holding 4 ((1, root_with 4 (entry 3 d 2 ∷ [])) ∷ ((2, owned_directory (octal 0 0 0 1) 7 70 4 (entry 3 f 3 ∷ [])) ∷ ((3, owned_file (octal 0 6 0 0) 8 70) ∷ [])))) (Ask (Create (h 2) f (Unchecked (record no_attributes { mode = Some (octal 0 7 7 7); mtime = ClientTime (at 9) }))) other) (at 2) false).server)
+    (serial ((serial (holding 4 ((1, root_with 4 (entry 3 d 2 ∷ [])) ∷
+    ((2, owned_directory (octal 0 0 0 1) 7 70 4 (entry 3 f 3 ∷ [])) ∷ ((3, owned_file (octal 0 6 0 0) 8 70) ∷ []))))
+    (Ask (Create (h 2) f (Unchecked (record no_attributes { mode = Some (octal 0 7 7 7); mtime = ClientTime (at 9) }))) other) (at 2) false).server)
     (Ask (Getattr (h 3)) other) (at 3) false).reply
     ≡ Success (GetattrDone (shown_of (file_shown 3 1 4096 1 1) (octal 0 6 0 0) 8 70))
 creation_over_a_file_without_a_size_changes_nothing = simp evaluate refl
 
 creation_over_a_file_with_a_size_without_w :
-    (serial (holding 4 ((1, root_with 4 (entry 3 d 2 ∷ [])) ∷ ((2, owned_directory (octal 0 0 0 1) 7 70 4 (entry 3 f 3 ∷ [])) ∷ ((3, owned_file (octal 0 7 5 5) 8 70) ∷ []))))
+    (serial (holding 4 ((1, root_with 4 (entry 3 d 2 ∷ [])) ∷
+    ((2, owned_directory (octal 0 0 0 1) 7 70 4 (entry 3 f 3 ∷ [])) ∷ ((3, owned_file (octal 0 7 5 5) 8 70) ∷ []))))
     (Ask (Create (h 2) f (Unchecked (record no_attributes { size = Some 0 }))) other) (at 2) false).reply
     ≡ fails Access 2
 creation_over_a_file_with_a_size_without_w = simp evaluate refl
 
 creation_over_a_file_with_a_size_by_w :
-    (serial (holding 4 ((1, root_with 4 (entry 3 d 2 ∷ [])) ∷ ((2, owned_directory (octal 0 0 0 1) 7 70 4 (entry 3 f 3 ∷ [])) ∷ ((3, owned_file (octal 0 0 0 2) 8 70) ∷ []))))
+    (serial (holding 4 ((1, root_with 4 (entry 3 d 2 ∷ [])) ∷
+    ((2, owned_directory (octal 0 0 0 1) 7 70 4 (entry 3 f 3 ∷ [])) ∷ ((3, owned_file (octal 0 0 0 2) 8 70) ∷ []))))
     (Ask (Create (h 2) f (Unchecked (record no_attributes { size = Some 0 }))) other) (at 2) false).reply
-    ≡ Success (MadeDone (h 3) (record (shown_of (file_shown 3 1 4096 1 2) (octal 0 0 0 2) 8 70) { size = 0; used = 0; mtime = at 2 }) (directory_kept 2 (octal 0 0 0 1) 2))
+    ≡ Success (MadeDone (h 3) (record (shown_of (file_shown 3 1 4096 1 2) (octal 0 0 0 2) 8 70) { size = 0; used = 0; mtime = at 2 })
+    (directory_kept 2 (octal 0 0 0 1) 2))
 creation_over_a_file_with_a_size_by_w = simp evaluate refl
 
 creation_over_a_file_with_a_size_by_its_owner :
-    (serial (holding 4 ((1, root_with 4 (entry 3 d 2 ∷ [])) ∷ ((2, owned_directory (octal 0 0 0 1) 7 70 4 (entry 3 f 3 ∷ [])) ∷ ((3, owned_file (octal 0 0 0 0) 8 70) ∷ []))))
+    (serial (holding 4 ((1, root_with 4 (entry 3 d 2 ∷ [])) ∷
+    ((2, owned_directory (octal 0 0 0 1) 7 70 4 (entry 3 f 3 ∷ [])) ∷ ((3, owned_file (octal 0 0 0 0) 8 70) ∷ []))))
     (Ask (Create (h 2) f (Unchecked (record no_attributes { size = Some 0 }))) (user 8 80 [])) (at 2) false).reply
-    ≡ Success (MadeDone (h 3) (record (shown_of (file_shown 3 1 4096 1 2) (octal 0 0 0 0) 8 70) { size = 0; used = 0; mtime = at 2 }) (directory_kept 2 (octal 0 0 0 1) 2))
+    ≡ Success (MadeDone (h 3) (record (shown_of (file_shown 3 1 4096 1 2) (octal 0 0 0 0) 8 70) { size = 0; used = 0; mtime = at 2 })
+    (directory_kept 2 (octal 0 0 0 1) 2))
 creation_over_a_file_with_a_size_by_its_owner = simp evaluate refl
 
 creation_over_a_file_with_a_size_by_uid_0 :
-    (serial (holding 4 ((1, root_with 4 (entry 3 d 2 ∷ [])) ∷ ((2, owned_directory (octal 0 0 0 1) 7 70 4 (entry 3 f 3 ∷ [])) ∷ ((3, owned_file (octal 0 0 0 0) 8 70) ∷ []))))
+    (serial (holding 4 ((1, root_with 4 (entry 3 d 2 ∷ [])) ∷
+    ((2, owned_directory (octal 0 0 0 1) 7 70 4 (entry 3 f 3 ∷ [])) ∷ ((3, owned_file (octal 0 0 0 0) 8 70) ∷ []))))
     (Ask (Create (h 2) f (Unchecked (record no_attributes { size = Some 0 }))) uid_0) (at 2) false).reply
-    ≡ Success (MadeDone (h 3) (record (shown_of (file_shown 3 1 4096 1 2) (octal 0 0 0 0) 8 70) { size = 0; used = 0; mtime = at 2 }) (directory_kept 2 (octal 0 0 0 1) 2))
+    ≡ Success (MadeDone (h 3) (record (shown_of (file_shown 3 1 4096 1 2) (octal 0 0 0 0) 8 70) { size = 0; used = 0; mtime = at 2 })
+    (directory_kept 2 (octal 0 0 0 1) 2))
 creation_over_a_file_with_a_size_by_uid_0 = simp evaluate refl
 
 creation_over_a_file_sets_no_mode_and_times :
-    (serial (holding 4 ((1, root_with 4 (entry 3 d 2 ∷ [])) ∷ ((2, owned_directory (octal 0 0 0 1) 7 70 4 (entry 3 f 3 ∷ [])) ∷ ((3, owned_file (octal 0 6 0 2) 8 70) ∷ []))))
-    (Ask (Create (h 2) f (Unchecked (record no_attributes { mode = Some (octal 0 7 7 7); uid = Some 9; gid = Some 90; size = Some 0; atime = ClientTime (at 5); mtime = ClientTime (at 6) }))) other) (at 2) false).reply
-    ≡ Success (MadeDone (h 3) (record (shown_of (file_shown 3 1 4096 1 2) (octal 0 6 0 2) 8 70) { size = 0; used = 0; mtime = at 2 }) (directory_kept 2 (octal 0 0 0 1) 2))
+    (serial (holding 4 ((1, root_with 4 (entry 3 d 2 ∷ [])) ∷
+    ((2, owned_directory (octal 0 0 0 1) 7 70 4 (entry 3 f 3 ∷ [])) ∷ ((3, owned_file (octal 0 6 0 2) 8 70) ∷ []))))
+    (Ask (Create (h 2) f (Unchecked (record no_attributes {
+      mode = Some
+          (octal 0 7 7 7);
+      uid = Some 9;
+      gid = Some 90;
+      size = Some 0;
+      atime = ClientTime (at 5);
+      mtime = ClientTime (at 6);
+    }))) other) (at 2) false).reply
+    ≡ Success (MadeDone (h 3) (record (shown_of (file_shown 3 1 4096 1 2) (octal 0 6 0 2) 8 70) { size = 0; used = 0; mtime = at 2 })
+    (directory_kept 2 (octal 0 0 0 1) 2))
 creation_over_a_file_sets_no_mode_and_times = simp evaluate refl
 
 creation_over_a_file_by_its_owner_sets_no_mode :
-    (serial (holding 4 ((1, root_with 4 (entry 3 d 2 ∷ [])) ∷ ((2, owned_directory (octal 0 0 0 1) 7 70 4 (entry 3 f 3 ∷ [])) ∷ ((3, owned_file (octal 0 6 0 0) 8 70) ∷ []))))
+    (serial (holding 4 ((1, root_with 4 (entry 3 d 2 ∷ [])) ∷
+    ((2, owned_directory (octal 0 0 0 1) 7 70 4 (entry 3 f 3 ∷ [])) ∷ ((3, owned_file (octal 0 6 0 0) 8 70) ∷ []))))
     (Ask (Create (h 2) f (Unchecked (record no_attributes { mode = Some (octal 0 7 7 7) }))) (user 8 80 [])) (at 2) false).reply
     ≡ Success (MadeDone (h 3) (shown_of (file_shown 3 1 4096 1 1) (octal 0 6 0 0) 8 70) (directory_kept 2 (octal 0 0 0 1) 2))
 creation_over_a_file_by_its_owner_sets_no_mode = simp evaluate refl
 
 creation_over_a_file_looks_at_no_time :
-    (serial (holding 4 ((1, root_with 4 (entry 3 d 2 ∷ [])) ∷ ((2, owned_directory (octal 0 0 0 1) 7 70 4 (entry 3 f 3 ∷ [])) ∷ ((3, owned_file (octal 0 0 0 2) 8 70) ∷ []))))
-    (Ask (Create (h 2) f (Unchecked (record no_attributes { atime = ClientTime (record { seconds = 1; nanoseconds = 1000000000 }) }))) other) (at 2) false).reply
+    (serial (holding 4 ((1, root_with 4 (entry 3 d 2 ∷ [])) ∷
+    ((2, owned_directory (octal 0 0 0 1) 7 70 4 (entry 3 f 3 ∷ [])) ∷ ((3, owned_file (octal 0 0 0 2) 8 70) ∷ []))))
+    (Ask (Create (h 2) f (Unchecked (record no_attributes { atime = ClientTime (record { seconds = 1; nanoseconds = 1000000000 }) }))) other)
+    (at 2) false).reply
     ≡ Success (MadeDone (h 3) (shown_of (file_shown 3 1 4096 1 1) (octal 0 0 0 2) 8 70) (directory_kept 2 (octal 0 0 0 1) 2))
 creation_over_a_file_looks_at_no_time = simp evaluate refl
 
 creation_over_a_file_clears_both_bits :
-    (serial (holding 4 ((1, root_with 4 (entry 3 d 2 ∷ [])) ∷ ((2, owned_directory (octal 0 0 0 1) 7 70 4 (entry 3 f 3 ∷ [])) ∷ ((3, owned_file (octal 6 7 7 7) 8 70) ∷ []))))
+    (serial (holding 4 ((1, root_with 4 (entry 3 d 2 ∷ [])) ∷
+    ((2, owned_directory (octal 0 0 0 1) 7 70 4 (entry 3 f 3 ∷ [])) ∷ ((3, owned_file (octal 6 7 7 7) 8 70) ∷ []))))
     (Ask (Create (h 2) f (Unchecked (record no_attributes { size = Some 0 }))) other) (at 2) false).reply
-    ≡ Success (MadeDone (h 3) (record (shown_of (file_shown 3 1 4096 1 2) (octal 0 7 7 7) 8 70) { size = 0; used = 0; mtime = at 2 }) (directory_kept 2 (octal 0 0 0 1) 2))
+    ≡ Success (MadeDone (h 3) (record (shown_of (file_shown 3 1 4096 1 2) (octal 0 7 7 7) 8 70) { size = 0; used = 0; mtime = at 2 })
+    (directory_kept 2 (octal 0 0 0 1) 2))
 creation_over_a_file_clears_both_bits = simp evaluate refl
 
 creation_over_a_file_by_uid_0_keeps_both_bits :
-    (serial (holding 4 ((1, root_with 4 (entry 3 d 2 ∷ [])) ∷ ((2, owned_directory (octal 0 0 0 1) 7 70 4 (entry 3 f 3 ∷ [])) ∷ ((3, owned_file (octal 6 7 7 7) 8 70) ∷ []))))
+    (serial (holding 4 ((1, root_with 4 (entry 3 d 2 ∷ [])) ∷
+    ((2, owned_directory (octal 0 0 0 1) 7 70 4 (entry 3 f 3 ∷ [])) ∷ ((3, owned_file (octal 6 7 7 7) 8 70) ∷ []))))
     (Ask (Create (h 2) f (Unchecked (record no_attributes { size = Some 0 }))) uid_0) (at 2) false).reply
-    ≡ Success (MadeDone (h 3) (record (shown_of (file_shown 3 1 4096 1 2) (octal 6 7 7 7) 8 70) { size = 0; used = 0; mtime = at 2 }) (directory_kept 2 (octal 0 0 0 1) 2))
+    ≡ Success (MadeDone (h 3) (record (shown_of (file_shown 3 1 4096 1 2) (octal 6 7 7 7) 8 70) { size = 0; used = 0; mtime = at 2 })
+    (directory_kept 2 (octal 0 0 0 1) 2))
 creation_over_a_file_by_uid_0_keeps_both_bits = simp evaluate refl
 
 guarded_creation_over_a_file_without_w :
-    (serial (holding 4 ((1, root_with 4 (entry 3 d 2 ∷ [])) ∷ ((2, owned_directory (octal 0 0 0 1) 7 70 4 (entry 3 f 3 ∷ [])) ∷ ((3, owned_file (octal 0 6 0 0) 8 70) ∷ []))))
+    (serial (holding 4 ((1, root_with 4 (entry 3 d 2 ∷ [])) ∷
+    ((2, owned_directory (octal 0 0 0 1) 7 70 4 (entry 3 f 3 ∷ [])) ∷ ((3, owned_file (octal 0 6 0 0) 8 70) ∷ []))))
     (Ask (Create (h 2) f (Guarded (record no_attributes { size = Some 0 }))) other) (at 2) false).reply
     ≡ fails Exists 2
 guarded_creation_over_a_file_without_w = simp evaluate refl
 
 exclusive_creation_over_a_file_without_w :
-    (serial (holding 4 ((1, root_with 4 (entry 3 d 2 ∷ [])) ∷ ((2, owned_directory (octal 0 0 0 1) 7 70 4 (entry 3 f 3 ∷ [])) ∷ ((3, owned_file (octal 0 6 0 0) 8 70) ∷ []))))
+    (serial (holding 4 ((1, root_with 4 (entry 3 d 2 ∷ [])) ∷
+    ((2, owned_directory (octal 0 0 0 1) 7 70 4 (entry 3 f 3 ∷ [])) ∷ ((3, owned_file (octal 0 6 0 0) 8 70) ∷ []))))
     (Ask (Create (h 2) f (Exclusive (replicate 8 1))) other) (at 2) false).reply
     ≡ fails Exists 2
 exclusive_creation_over_a_file_without_w = simp evaluate refl
 
 exclusive_creation_again_by_another_tells :
-    (serial (with_file (File (record { attributes = owned (octal 0 6 0 0) 8 70; bytes = []; filled = no_blocks; touch = None; verifier = Some (replicate 8 1) })))
+    (serial (with_file (File (record {
+      attributes = owned (octal 0 6 0 0) 8 70;
+      bytes = [];
+      filled = no_blocks;
+      touch = None;
+      verifier = Some
+          (replicate 8 1);
+    })))
     (Ask (Create root a (Exclusive (replicate 8 1))) other) (at 2) false).reply
     ≡ Success (MadeDone (h 2) (shown_of (file_shown 2 0 0 1 1) (octal 0 6 0 0) 8 70) (changed (before 4096 1 1) (root_shown 2 1)))
 exclusive_creation_again_by_another_tells = simp evaluate refl

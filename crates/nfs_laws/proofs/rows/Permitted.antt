@@ -1,7 +1,7 @@
 -- READ, WRITE, COMMIT, LOOKUP, READDIR, READDIRPLUS and MNT by the owner, the groups and the mode (RFC 1813 sections 2.5, 3.3.3, 3.3.6,
 -- 3.3.7, 3.3.16, 3.3.17 and 4.4, appendix I section 5.2.1).
 use Rattle.std.proofs.Common.{◌≡◌, ℕ, true, false, List, [], ◌∷◌, ◌++◌, replicate, Some, None, refl}
-use Rattle.nfs_model.specs.Types.{Read, Write, Commit, Lookup, Readdir, Readdirplus, MountBelow, Ask, Success, ReadDone, WriteDone}
+use Rattle.nfs_model.specs.Types.{ListedPlus, Read, Write, Commit, Lookup, Readdir, Readdirplus, MountBelow, Ask, Success, ReadDone, WriteDone}
 use Rattle.nfs_model.specs.Types.{CommitDone, LookupDone, ReaddirDone, ReaddirplusDone, MountDone, Access, NoEntry, NotDirectory, Invalid}
 use Rattle.nfs_model.specs.Types.{NameTooLong, Stale, BadCookie}
 use Rattle.nfs_model.specs.Serial.Step.{serial}
@@ -13,6 +13,13 @@ use Rattle.nfs_laws.proofs.rows.Checked.{tree_of, nest_of, shown_of}
 -- `/vol0`
 abbrev vol0 : List ℕ
 vol0 = 0x2f ∷ 0x76 ∷ 0x6f ∷ 0x6c ∷ 0x30 ∷ []
+
+-- the entry `f` of READDIRPLUS with attributes and handle, and its name alone
+abbrev f_and_more : ListedPlus
+f_and_more = record { entry = entry 3 f 3; attributes = Some (shown_of (file_shown 3 1 4096 1 1) (octal 0 6 4 4) 8 70); handle = Some (h 3) }
+
+abbrev f_alone : ListedPlus
+f_alone = record { entry = entry 3 f 3; attributes = None; handle = None }
 
 -- ---- READ: by r, and by x
 
@@ -374,17 +381,17 @@ readdir_of_another_cookie_with_r = simp evaluate refl
 
 others_list_all_by_r_and_x :
     (serial (tree_of (octal 0 0 0 5) 8) (Ask (Readdirplus (h 2) 2 (replicate 8 0) 512 4096) other) (at 2) false).reply
-    ≡ Success (ReaddirplusDone (shown_of (directory_shown 2 2 1) (octal 0 0 0 5) 7 70) (record { entry = entry 3 f 3; attributes = Some (shown_of (file_shown 3 1 4096 1 1) (octal 0 6 4 4) 8 70); handle = Some (h 3) } ∷ []) true)
+    ≡ Success (ReaddirplusDone (shown_of (directory_shown 2 2 1) (octal 0 0 0 5) 7 70) (f_and_more ∷ []) true)
 others_list_all_by_r_and_x = simp evaluate refl
 
 others_list_names_alone_without_x :
     (serial (tree_of (octal 0 7 7 4) 8) (Ask (Readdirplus (h 2) 2 (replicate 8 0) 512 4096) other) (at 2) false).reply
-    ≡ Success (ReaddirplusDone (shown_of (directory_shown 2 2 1) (octal 0 7 7 4) 7 70) (record { entry = entry 3 f 3; attributes = None; handle = None } ∷ []) true)
+    ≡ Success (ReaddirplusDone (shown_of (directory_shown 2 2 1) (octal 0 7 7 4) 7 70) (f_alone ∷ []) true)
 others_list_names_alone_without_x = simp evaluate refl
 
 owner_lists_names_alone_without_x :
     (serial (tree_of (octal 0 6 7 7) 8) (Ask (Readdirplus (h 2) 2 (replicate 8 0) 512 4096) owner) (at 2) false).reply
-    ≡ Success (ReaddirplusDone (shown_of (directory_shown 2 2 1) (octal 0 6 7 7) 7 70) (record { entry = entry 3 f 3; attributes = None; handle = None } ∷ []) true)
+    ≡ Success (ReaddirplusDone (shown_of (directory_shown 2 2 1) (octal 0 6 7 7) 7 70) (f_alone ∷ []) true)
 owner_lists_names_alone_without_x = simp evaluate refl
 
 others_without_r_do_not_list_all :
@@ -394,7 +401,7 @@ others_without_r_do_not_list_all = simp evaluate refl
 
 uid_0_lists_all_whatever_the_mode :
     (serial (tree_of (octal 0 0 0 0) 8) (Ask (Readdirplus (h 2) 2 (replicate 8 0) 512 4096) uid_0) (at 2) false).reply
-    ≡ Success (ReaddirplusDone (shown_of (directory_shown 2 2 1) (octal 0 0 0 0) 7 70) (record { entry = entry 3 f 3; attributes = Some (shown_of (file_shown 3 1 4096 1 1) (octal 0 6 4 4) 8 70); handle = Some (h 3) } ∷ []) true)
+    ≡ Success (ReaddirplusDone (shown_of (directory_shown 2 2 1) (octal 0 0 0 0) 7 70) (f_and_more ∷ []) true)
 uid_0_lists_all_whatever_the_mode = simp evaluate refl
 
 readdirplus_of_a_file_is_not_asked :

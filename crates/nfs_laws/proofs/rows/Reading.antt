@@ -4,12 +4,12 @@ use Rattle.std.proofs.Common.{◌≡◌, ℕ, true, false, [], ◌∷◌, replic
 use Rattle.std.specs.Ordering.{nat_cmp}
 use Rattle.std.specs.FinSet.{FinSet}
 use Rattle.std.specs.FinSet as sets
-use Rattle.nfs_model.specs.Types.{Call, Caller, ClientTime, Unchecked, Guarded, Getattr, Setattr, Lookup, CheckAccess, Read, Write, Create, Mkdir}
+use Rattle.nfs_model.specs.Types.{Call, Caller, Wcc, ListedPlus, ClientTime, Unchecked, Guarded, Getattr, Setattr, Lookup, CheckAccess, Read, Write, Create, Mkdir}
 use Rattle.nfs_model.specs.Types.{Remove, Rmdir, Rename, Readdir, Readdirplus, Fsstat, Fsinfo, Pathconf, Commit, Ask, Success, GetattrDone}
 use Rattle.nfs_model.specs.Types.{SetattrDone, LookupDone, AccessDone, ReadDone, WriteDone, MadeDone, GoneDone, RenameDone, ReaddirDone}
 use Rattle.nfs_model.specs.Types.{ReaddirplusDone, FsstatDone, FsinfoDone, PathconfDone, CommitDone, ReadOnly, Access, CrossVolume, Stale, BadHandle}
 use Rattle.nfs_model.specs.Tree.{Affinity, Logical, Stripe, Volume}
-use Rattle.nfs_model.specs.Memo.{Removes, Renames, ToldGone, ToldRenamed}
+use Rattle.nfs_model.specs.Memo.{Change, Told, Removes, Renames, ToldGone, ToldRenamed}
 use Rattle.nfs_model.specs.Server.{Server, handle_bytes, opening_volume}
 use Rattle.nfs_model.specs.Work.{Store, Task, move_of}
 use Rattle.nfs_model.specs.Serial.Create.{no_attributes}
@@ -19,6 +19,23 @@ use Rattle.nfs_laws.proofs.rows.Cases.{one_range, verifier, at, h, root, fails, 
 use Rattle.nfs_laws.proofs.rows.Cases.{directory_shown, file_shown, before, changed}
 use Rattle.nfs_laws.proofs.rows.Checked.{octal, owner, sixteenth, other, uid_0, free, reader, file_of, directory_of, tree_of, nest_of, shown_of}
 use Rattle.nfs_laws.proofs.rows.Checked.{directory_changed, directory_kept}
+
+-- the entry `f` of READDIRPLUS
+abbrev f_and_more : ListedPlus
+f_and_more = record { entry = entry 3 f 3; attributes = Some (shown_of (file_shown 3 1 4096 1 1) (octal 0 6 4 4) 8 70); handle = Some (h 3) }
+
+-- the root, which doesn't change
+abbrev root_kept : Wcc
+root_kept = changed (before 4096 1 1) (root_shown 2 1)
+
+-- the root alone, with one place, in which is what this caller was told of this at 1 second
+abbrev telling : Caller → Change → Told → Server
+telling caller change told = record {
+  spare = 1 ∷ [];
+  volumes = record (volume_with 1024 16777216 3 ((1, root_with 4 []) ∷ [])) {
+    memos = Some (record { caller = caller; change = change; moment = at 1; told = told }) ∷ [];
+  } ∷ (opening_volume verifier 1 one_range ∷ []);
+}
 
 -- ---- callers that may change nothing: ROFS for all that changes
 
@@ -116,7 +133,7 @@ reader_lists = simp evaluate refl
 
 reader_lists_all :
     (serial (tree_of (octal 0 7 7 7) 8) (Ask (Readdirplus (h 2) 2 (replicate 8 0) 512 4096) (reader (free owner))) (at 2) false).reply
-    ≡ Success (ReaddirplusDone (shown_of (directory_shown 2 2 1) (octal 0 7 7 7) 7 70) (record { entry = entry 3 f 3; attributes = Some (shown_of (file_shown 3 1 4096 1 1) (octal 0 6 4 4) 8 70); handle = Some (h 3) } ∷ []) true)
+    ≡ Success (ReaddirplusDone (shown_of (directory_shown 2 2 1) (octal 0 7 7 7) 7 70) (f_and_more ∷ []) true)
 reader_lists_all = simp evaluate refl
 
 reader_commits :
@@ -187,27 +204,23 @@ rofs_comes_before_another_count :
 rofs_comes_before_another_count = refl
 
 what_it_was_told_comes_before_rofs :
-    (serial (record { spare = 1 ∷ []; volumes = record (volume_with 1024 16777216 3 ((1, root_with 4 []) ∷ [])) { memos = Some (record { caller = reader uid_0; change = Removes root a; moment = at 1; told = ToldGone (changed (before 4096 1 1) (root_shown 2 1)) }) ∷ [] } ∷ (opening_volume verifier 1 one_range ∷ []) })
-    (Ask (Remove root a) (reader uid_0)) (at 2) false).reply
-    ≡ Success (GoneDone (changed (before 4096 1 1) (root_shown 2 1)))
+    (serial (telling (reader uid_0) (Removes root a) (ToldGone root_kept)) (Ask (Remove root a) (reader uid_0)) (at 2) false).reply
+    ≡ Success (GoneDone root_kept)
 what_it_was_told_comes_before_rofs = refl
 
 what_it_was_told_comes_before_acces :
-    (serial (record { spare = 1 ∷ []; volumes = record (volume_with 1024 16777216 3 ((1, root_with 4 []) ∷ [])) { memos = Some (record { caller = other; change = Removes root a; moment = at 1; told = ToldGone (changed (before 4096 1 1) (root_shown 2 1)) }) ∷ [] } ∷ (opening_volume verifier 1 one_range ∷ []) })
-    (Ask (Remove root a) other) (at 2) false).reply
-    ≡ Success (GoneDone (changed (before 4096 1 1) (root_shown 2 1)))
+    (serial (telling other (Removes root a) (ToldGone root_kept)) (Ask (Remove root a) other) (at 2) false).reply
+    ≡ Success (GoneDone root_kept)
 what_it_was_told_comes_before_acces = refl
 
 what_another_was_told_is_not_asked :
-    (serial (record { spare = 1 ∷ []; volumes = record (volume_with 1024 16777216 3 ((1, root_with 4 []) ∷ [])) { memos = Some (record { caller = uid_0; change = Removes root a; moment = at 1; told = ToldGone (changed (before 4096 1 1) (root_shown 2 1)) }) ∷ [] } ∷ (opening_volume verifier 1 one_range ∷ []) })
-    (Ask (Mkdir root a no_attributes) other) (at 2) false).reply
+    (serial (telling uid_0 (Removes root a) (ToldGone root_kept)) (Ask (Mkdir root a no_attributes) other) (at 2) false).reply
     ≡ fails Access 2
 what_another_was_told_is_not_asked = simp evaluate refl
 
 what_a_rename_was_told_comes_before_acces :
-    (serial (record { spare = 1 ∷ []; volumes = record (volume_with 1024 16777216 3 ((1, root_with 4 []) ∷ [])) { memos = Some (record { caller = other; change = Renames root a root b; moment = at 1; told = ToldRenamed (changed (before 4096 1 1) (root_shown 2 1)) (changed (before 4096 1 1) (root_shown 2 1)) }) ∷ [] } ∷ (opening_volume verifier 1 one_range ∷ []) })
-    (Ask (Rename root a root b) other) (at 2) false).reply
-    ≡ Success (RenameDone (changed (before 4096 1 1) (root_shown 2 1)) (changed (before 4096 1 1) (root_shown 2 1)))
+    (serial (telling other (Renames root a root b) (ToldRenamed root_kept root_kept)) (Ask (Rename root a root b) other) (at 2) false).reply
+    ≡ Success (RenameDone root_kept root_kept)
 what_a_rename_was_told_comes_before_acces = refl
 
 -- ---- ACCESS: READ 1, LOOKUP 2, MODIFY 4, EXTEND 8, DELETE 16 and EXECUTE 32
@@ -333,7 +346,8 @@ fsinfo_needs_no_right = simp evaluate refl
 
 fsstat_needs_no_right :
     (serial (file_of (octal 0 0 0 0)) (Ask (Fsstat (h 2)) (reader other)) (at 2) false).reply
-    ≡ Success (FsstatDone (shown_of (file_shown 2 1 4096 1 1) (octal 0 0 0 0) 7 70) (record { total_bytes = 4194304; free_bytes = 4190208; inodes = 65536; free_inodes = 65534 }))
+    ≡ Success (FsstatDone (shown_of (file_shown 2 1 4096 1 1) (octal 0 0 0 0) 7 70)
+    (record { total_bytes = 4194304; free_bytes = 4190208; inodes = 65536; free_inodes = 65534 }))
 fsstat_needs_no_right = simp evaluate refl
 
 -- ---- callers that are not checked
@@ -373,7 +387,8 @@ unchecked_stranger_gives_02000 = simp evaluate refl
 unchecked_stranger_makes_a_file_of_another_in_a_directory_with_02000 :
     (serial (tree_of (octal 2 0 0 0) 8)
     (Ask (Create (h 2) a (Guarded (record no_attributes { mode = Some (octal 6 7 5 5); uid = Some 8 }))) (free other)) (at 2) false).reply
-    ≡ Success (MadeDone (h 4) (record (shown_of (file_shown 4 0 0 2 2) (octal 6 7 5 5) 8 90) { atime = at 2 }) (directory_changed 2 (octal 2 0 0 0) 2))
+    ≡ Success (MadeDone (h 4) (record (shown_of (file_shown 4 0 0 2 2) (octal 6 7 5 5) 8 90) { atime = at 2 })
+    (directory_changed 2 (octal 2 0 0 0) 2))
 unchecked_stranger_makes_a_file_of_another_in_a_directory_with_02000 = simp evaluate refl
 
 unchecked_stranger_makes_a_directory_in_one_with_02000 :
@@ -383,8 +398,10 @@ unchecked_stranger_makes_a_directory_in_one_with_02000 = simp evaluate refl
 
 unchecked_stranger_creates_over_a_file :
     (serial (tree_of (octal 0 0 0 0) 8)
-    (Ask (Create (h 2) f (Unchecked (record no_attributes { mode = Some (octal 6 7 5 5); uid = Some 9; size = Some 1; mtime = ClientTime (at 6) }))) (free other)) (at 2) false).reply
-    ≡ Success (MadeDone (h 3) (record (shown_of (file_shown 3 1 4096 1 2) (octal 6 7 5 5) 9 70) { mtime = at 6 }) (directory_kept 2 (octal 0 0 0 0) 2))
+    (Ask (Create (h 2) f (Unchecked (record no_attributes { mode = Some (octal 6 7 5 5); uid = Some 9; size = Some 1; mtime = ClientTime (at 6) })))
+    (free other)) (at 2) false).reply
+    ≡ Success (MadeDone (h 3) (record (shown_of (file_shown 3 1 4096 1 2) (octal 6 7 5 5) 9 70) { mtime = at 6 })
+    (directory_kept 2 (octal 0 0 0 0) 2))
 unchecked_stranger_creates_over_a_file = simp evaluate refl
 
 unchecked_write_keeps_both_bits :
@@ -395,7 +412,7 @@ unchecked_write_keeps_both_bits = simp evaluate refl
 
 unchecked_stranger_lists_all_without_x :
     (serial (tree_of (octal 0 0 0 0) 8) (Ask (Readdirplus (h 2) 2 (replicate 8 0) 512 4096) (free other)) (at 2) false).reply
-    ≡ Success (ReaddirplusDone (shown_of (directory_shown 2 2 1) (octal 0 0 0 0) 7 70) (record { entry = entry 3 f 3; attributes = Some (shown_of (file_shown 3 1 4096 1 1) (octal 0 6 4 4) 8 70); handle = Some (h 3) } ∷ []) true)
+    ≡ Success (ReaddirplusDone (shown_of (directory_shown 2 2 1) (octal 0 0 0 0) 7 70) (f_and_more ∷ []) true)
 unchecked_stranger_lists_all_without_x = simp evaluate refl
 
 -- ---- when a WRITE moves: the file has its first block
