@@ -33,7 +33,7 @@ pub struct Caller {
 }
 
 impl Caller {
-    /// Who makes a call without a credential, of number 0 and over no connection, and isn't checked.
+    /// Who makes a call without a credential, of number 0, over no connection, and isn't checked.
     pub const NOBODY: Caller = Caller {
         credential: Credential::NOBODY,
         xid: 0,
