@@ -1,4 +1,4 @@
-use Rattle.std.proofs.Common.{List, refl, sym, ap, subst}
+use Rattle.std.proofs.Common.{List, refl, sym, subst, ◌∙◌}
 use Rattle.std.specs.Prelude.{OnOk}
 use Rattle.affinity.specs.Affinity.{call_node}
 use Rattle.affinity.specs.Layout.{layout_of}
@@ -24,7 +24,7 @@ returns-in-Some-clause-ok g c =
     (sym c.in-Call.is)
     (subst (λ (xs : List Arrival). OnOk c.admit.result (g.S.RecordSink.came c.args.sink.now xs c.admit.new.self))
     (waits-is layout c.args.peer c.args.origin (asked_of (Call c.in-Call.call c.in-Call.caller)) (types.Ask call by)
-    (asked-by sender call (caller_of c.in-Call.caller) by (sym c.may_ask.ensures ∙ c.if-may_ask.true) c.caller_at.ensures)
+    (asked-by sender call (caller_of c.in-Call.caller) by (sym c.may_ask.ensures ∙ c.if-not-may_ask.false) c.caller_at.ensures)
     (call_node c.in-Some.admission.affinity) c.in-Some.ensures.waits.at_home) c.admit.ensures.ok)
 
 pub returns-in-None-clause-ok : goal.returns-in-None-clause-ok
@@ -33,12 +33,12 @@ returns-in-None-clause-ok g c =
     let call = call_of c.in-Call.call in
     let by = caller_of c.caller_at-caller.result in
     let sender = sender_of c.args.peer in
-    subst (λ (r : Request). OnOk c.answer_now.result (g.S.RecordSink.came c.args.sink.now (given_of layout c.args.peer c.args.origin (asked_of r)) c.answer_now.new.sink))
+    subst (λ (r : Request). OnOk c.answer_now-in-None.result (g.S.RecordSink.came c.args.sink.now (given_of layout c.args.peer c.args.origin (asked_of r)) c.answer_now-in-None.new.sink))
     (sym c.in-Call.is)
-    (subst (λ (xs : List Arrival). OnOk c.answer_now.result (g.S.RecordSink.came c.args.sink.now xs c.answer_now.new.sink))
+    (subst (λ (xs : List Arrival). OnOk c.answer_now-in-None.result (g.S.RecordSink.came c.args.sink.now xs c.answer_now-in-None.new.sink))
     (answered-is layout c.args.peer c.args.origin (asked_of (Call c.in-Call.call c.in-Call.caller)) (types.Ask call by)
-    (asked-by sender call (caller_of c.in-Call.caller) by (sym c.may_ask.ensures ∙ c.if-may_ask.true) c.caller_at-caller.ensures)
-    (sym c.in-None.ensures.home)) c.answer_now.ensures.ok)
+    (asked-by sender call (caller_of c.in-Call.caller) by (sym c.may_ask.ensures ∙ c.if-not-may_ask.false) c.caller_at-caller.ensures)
+    (sym c.in-None.ensures.home)) c.answer_now-in-None.ensures.ok)
 
 pub returns-in-Refused-clause-ok : goal.returns-in-Refused-clause-ok
 returns-in-Refused-clause-ok g c =
