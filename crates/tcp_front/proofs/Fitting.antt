@@ -1,12 +1,8 @@
 -- Records of replies at once are short, and what is given on is what the record comes to.
-use Rattle.std.proofs.Common.{◌≡◌, ◌≤◌, ℕ, Bool, true, false, if◌then◌else◌, List, [], ◌∷◌, Option, Some, None, length, refl, sym, ap, ◌∙◌, arith}
+use Rattle.std.proofs.Common.{◌≡◌, ◌≤◌, ℕ, Bool, true, if◌then◌else◌, List, [], ◌∷◌, Option, Some, None, length, sym, ap, ◌∙◌, arith}
 use Rattle.nfs_model.specs.Types as types
 use Rattle.nfs_model.specs.Tree.{Affinity, Layout}
 use Rattle.nfs_model.specs.Home.{home_of_asked}
-use Rattle.nfs_values.specs.declared.call.Call.{Call}
-use Rattle.nfs_values.specs.declared.call.Call.TheVariants as calls
-use Rattle.nfs_values.specs.declared.number.VolumeNumber.{VolumeNumber}
-use Rattle.nfs_values.specs.Call.{call_of}
 use Rattle.scheduler.specs.declared.message.Origin.{Origin}
 use Rattle.engine_feed.specs.Admission.{reply_at_once}
 use Rattle.engine_feed.specs.Codec.{reply_record}
@@ -31,25 +27,11 @@ asked-may : (sender : Sender) (call : types.Call) (caller : types.Caller) → ma
 asked-may sender call caller may =
     ap (λ (b : Bool). if b then types.Ask call (caller_at sender caller) else types.Refused (types.AuthError 5)) may
 
--- and where it may not
-pub asked-refused : (sender : Sender) (call : types.Call) (caller : types.Caller) → may_ask sender call caller ≡ false
-    → types.Refused (types.AuthError 5) ≡ asked_from sender (types.Ask call caller)
-asked-refused sender call caller may =
-    sym (ap (λ (b : Bool). if b then types.Ask call (caller_at sender caller) else types.Refused (types.AuthError 5)) may)
-
 -- a call of a sender who may ask it, by who makes it
 pub asked-by : (sender : Sender) (call : types.Call) (caller by : types.Caller) → may_ask sender call caller ≡ true
     → by ≡ caller_at sender caller → types.Ask call by ≡ asked_from sender (types.Ask call caller)
 asked-by sender call caller by may is =
     ap (λ (k : types.Caller). types.Ask call k) is ∙ sym (asked-may sender call caller may)
-
--- a call that isn't STOP nor GROW
-pub anybodys : (sender : Sender) (caller : types.Caller) (call : Call) → (call ≡ calls.Stop → ⊥)
-    → ((volume : VolumeNumber) (ranges : ℕ) → call ≡ calls.Grow volume ranges → ⊥) → may_ask sender (call_of call) caller ≡ true
-anybodys sender caller calls.Stop stop grow = absurd (stop refl)
-anybodys sender caller (calls.Grow volume ranges) stop grow = absurd (grow volume ranges refl)
-anybodys sender caller calls.Null stop grow = refl
-anybodys sender caller call stop grow = refl
 
 module _ (layout : Layout) (peer : Peer) (origin : Origin) (asked from : types.Asked) where
   abbrev given_as : types.Asked → Option Affinity → List Arrival

@@ -25,11 +25,10 @@ use std::alloc::{AllocError, Global};
 fn may_stop(peer: Peer, caller: &Caller) -> bool
     ensures { result ≡ may_stop (sender_of peer) (caller_of caller.now) }
 {
-    if peer.standing.is_checked {
-        peer.is_privileged && caller.credential.uid == 0 && !peer.standing.reads_only
-    } else {
-        peer.is_privileged
+    if !peer.standing.is_checked {
+        return peer.is_privileged;
     }
+    peer.is_privileged && caller.credential.uid == 0 && !peer.standing.reads_only
 }
 
 /// Whether a peer may have a volume grow.

@@ -11,7 +11,7 @@ use Rattle.rpc_msg.specs.declared.record.Request.TheVariants.{Call, Refused, Und
 use Rattle.tcp_front.specs.Arrivals.{Arrival}
 use Rattle.tcp_front.specs.Steps.{given_of}
 use Rattle.tcp_front.specs.Peers.{sender_of}
-use Rattle.tcp_front.proofs.Fitting.{asked-by, asked-refused, waits-is, answered-is}
+use Rattle.tcp_front.proofs.Fitting.{asked-by, waits-is, answered-is}
 use Rattle.tcp_front.proofs.giving.give.Goals as goal
 
 pub returns-in-Some-clause-ok : goal.returns-in-Some-clause-ok
