@@ -13,7 +13,7 @@ use Rattle.nfs_model.specs.Shown.{effective_attributes}
 use Rattle.nfs_model.specs.Names.{find_name, is_dots, name_fault, same_name, dot, dot_dot}
 use Rattle.nfs_model.specs.Locate.{Effect, Fails, Tells, unless, on_node, on_directory, on_file, Found, child, Naming, on_name}
 use Rattle.nfs_model.specs.Serial.Rights.{Protection, protected, protection, rights_of, is_owner_or_root, may_write, may_change, may_search}
-use Rattle.nfs_model.specs.Serial.Permission.{needs, reserved, then_asks, of_node, of_file, of_directory, sets_owned, sets_written, set_refusal}
+use Rattle.nfs_model.specs.Serial.Permission.{needs, reserved, then_asks, of_node, of_file, of_directory, sets_owned, set_refusal}
 use Rattle.nfs_model.specs.Serial.Permission.{is_no_child, new_refusal, over_refusal, create_refusal, gone_refusal, target_refusal, moved_refusal, move_refusal}
 use Rattle.nfs_model.specs.Serial.Permission.{is_one_entry, write_rights, is_change, refusal_by, permitted, permitted_two}
 use Rattle.nfs_model.specs.Serial.Setattr.{given, given_mode, set_node, set_taken, setattr_fault, replaced, with_node, setattr}
@@ -55,20 +55,13 @@ none_owned false false true rest e f = absurd cc
 none_owned false false false rest e f = refl
 
 -- and needs w
-some_written : (zero own gives keeps writes may : Bool) → (zero || own) ≡ false
-    → cond zero None (then_asks (reserved (not gives || own)) (then_asks (reserved keeps) (needs (not writes || may)))) ≡ None
-    → (gives ≡ false → writes ≡ true) → may ≡ true
-some_written true own gives keeps writes may e f g = absurd cc
-some_written false true gives keeps writes may e f g = absurd cc
-some_written false false true keeps writes may e f g = absurd cc
-some_written false false false false writes may e f g = absurd cc
-some_written false false false true true may e f g = needs_true may f
-some_written false false false true false may e f g = let no : false ≡ true = g refl in absurd cc
-
-or_not : (a b : Bool) → b ≡ false → (a || not b) ≡ true
-or_not true b e = refl
-or_not false true e = absurd cc
-or_not false false e = refl
+some_written : (zero own gives keeps may : Bool) → (zero || own) ≡ false
+    → cond zero None (then_asks (reserved (not gives || own)) (then_asks (reserved keeps) (needs may))) ≡ None → may ≡ true
+some_written true own gives keeps may e f = absurd cc
+some_written false true gives keeps may e f = absurd cc
+some_written false false true keeps may e f = absurd cc
+some_written false false false false may e f = absurd cc
+some_written false false false true may e f = needs_true may f
 
 -- ---- what is given of attributes
 
@@ -130,8 +123,8 @@ set_as (File f) caller s set moment (Directory e) a none = absurd a
 set_as (Directory d) caller s set moment (File g) a none = absurd a
 set_as (File f) caller s set moment (File g) a none =
     absurd (no_truth (may_write caller.credential (protection (File g)))
-    (some_written (caller.credential.uid == 0) (caller.credential.uid == g.attributes.uid) (sets_owned set) _ (sets_written set) _
-    (not_owned (File f) caller s (File g) a) none (λ e. or_not _ (sets_owned set) e))
+    (some_written (caller.credential.uid == 0) (caller.credential.uid == g.attributes.uid) (sets_owned set) _ _
+    (not_owned (File f) caller s (File g) a) none)
     (no_write (File f) caller s g a))
 set_as (Directory d) caller s set moment (Directory e) a none =
     let owned : sets_owned set ≡ false = none_owned (caller.credential.uid == 0) (caller.credential.uid == e.attributes.uid) (sets_owned set) _

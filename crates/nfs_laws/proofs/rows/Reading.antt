@@ -404,6 +404,11 @@ unchecked_stranger_creates_over_a_file :
     (directory_kept 2 (octal 0 0 0 0) 2))
 unchecked_stranger_creates_over_a_file = simp evaluate refl
 
+unchecked_stranger_creates_over_a_file_without_a_size :
+    (serial (tree_of (octal 0 0 0 0) 8) (Ask (Create (h 2) f (Unchecked no_attributes)) (free other)) (at 2) false).reply
+    ≡ Success (MadeDone (h 3) (shown_of (file_shown 3 1 4096 1 2) (octal 0 6 4 4) 8 70) (directory_kept 2 (octal 0 0 0 0) 2))
+unchecked_stranger_creates_over_a_file_without_a_size = simp evaluate refl
+
 unchecked_write_keeps_both_bits :
     (serial ((serial (file_of (octal 6 7 7 7)) (Ask (write_at 2 0 (6 ∷ [])) (free other)) (at 2) false).server)
     (Ask (Getattr (h 2)) other) (at 3) false).reply

@@ -181,9 +181,9 @@ made_ends : (n : Naming) (node : Node) → IsNamed n → Ends Telling n.volume (
 made_ends n node e =
     changes Telling n.volume _ (with_child n node) refl (
       others n.volume (with_child n node) refl refl refl (λ b.
-      let more : AreBelow (n.volume.next + 1) n.volume.nodes = more_below n.volume.next n.volume.nodes b in
-      insert_below (n.volume.next + 1) (insert n.volume.nodes n.volume.next node) n.fileid (directory_made n) (more n.fileid _ e)
-      (insert_below (n.volume.next + 1) n.volume.nodes n.volume.next node (below_next n.volume.next) more)),
+          let more : AreBelow (n.volume.next + 1) n.volume.nodes = more_below n.volume.next n.volume.nodes b in
+          insert_below (n.volume.next + 1) (insert n.volume.nodes n.volume.next node) n.fileid (directory_made n) (more n.fileid _ e)
+          (insert_below (n.volume.next + 1) n.volume.nodes n.volume.next node (below_next n.volume.next) more)),
       made_tells n (with_child n node) (record { fileid = n.volume.next; node = node }) (directory_made n),
     )
 
@@ -230,8 +230,8 @@ gone_ends : (n : Naming) (fileid : ℕ) → IsNamed n → Ends Telling n.volume 
 gone_ends n fileid e =
     changes Telling n.volume _ (without_child n fileid) refl (
       others n.volume (without_child n fileid) refl refl refl (λ b.
-      insert_below n.volume.next (remove n.volume.nodes fileid) n.fileid (directory_left n) (b n.fileid _ e)
-      (remove_below n.volume.next n.volume.nodes fileid b)),
+          insert_below n.volume.next (remove n.volume.nodes fileid) n.fileid (directory_left n) (b n.fileid _ e)
+          (remove_below n.volume.next n.volume.nodes fileid b)),
       (ToldGone _, (refl, refl)),
     )
 

@@ -68,24 +68,14 @@ abbrev pub sets_owned : SetAttributes → Bool
 sets_owned set =
     is_some set.mode || is_some set.uid || is_some set.gid || is_client_time set.atime || is_client_time set.mtime
 
-abbrev pub is_server_time : SetTime → Bool
-is_server_time Keep = false
-is_server_time ServerTime = true
-is_server_time (ClientTime t) = false
-
--- a size, a time of the server, or nothing at all
-abbrev pub sets_written : SetAttributes → Bool
-sets_written set =
-    is_some set.size || is_server_time set.atime || is_server_time set.mtime || not (sets_owned set)
-
 -- SETATTR (RFC 1813 section 3.3.2) by another than uid 0: mode, owner, group and times of the client are for the owner, who keeps its uid
--- and gives one of its own groups; a size, times of the server, and nothing at all need w
+-- and gives one of its own groups; the rest, a size or times of the server, needs w
 abbrev pub set_refusal : Credential → SetAttributes → Protection → Option Status
 set_refusal who set object =
     if who.uid == 0 then None
     else then_asks (reserved (not (sets_owned set) || (who.uid == object.uid)))
     (then_asks (reserved (is_kept set.uid object.uid && is_own_group who set.gid object.gid))
-    (needs (not (sets_written set) || may_write who object)))
+    (needs (may_write who object)))
 
 -- ---- names
 
