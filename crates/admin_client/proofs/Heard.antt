@@ -17,7 +17,7 @@ use Rattle.rpc_msg.specs.Replies.{auth_shape, no_verifier}
 use Rattle.rpc_msg.specs.Heads.{Call, head_by, nobody, version_by}
 use Rattle.rpc_msg.specs.Calls.{IsCallBy, call_shape, call_value}
 use Rattle.rpc_msg.specs.Handles.{call_heard}
-use Rattle.rpc_msg.specs.Records.{heard_from}
+use Rattle.rpc_msg.specs.Records.{caller_by, heard_from}
 use Rattle.rpc_msg.specs.Hearing.{AsksForBy}
 use Rattle.admin_client.specs.declared.call.AdminCall.{AdminCall}
 use Rattle.admin_client.specs.declared.call.AdminCall.TheVariants.{Census, Grow, Stop}
@@ -102,10 +102,10 @@ call_same (OfRun run) (Grow volume ranges) = refl
 call_same (OfRun run) Stop = refl
 
 abbrev heard_as : ℕ → model.Call → Heard
-heard_as xid call = record { xid = xid; asked = model.Ask call nobody }
+heard_as xid call = record { xid = xid; asked = model.Ask call (caller_by xid nobody) }
 
 pub call_is_heard : FoundAgain → (offer : Offer) (xid : ℕ) (call : AdminCall) → xid < 2 ^ 32 → CallFits call
-    → offers offer (procedure_of call) ≡ true → AsksForBy offer (call_bytes xid call) xid (model_call call) nobody
+    → offers offer (procedure_of call) ≡ true → AsksForBy offer (call_bytes xid call) xid (model_call call) (caller_by xid nobody)
 call_is_heard again offer xid call small fits e =
     ap (heard_from (form_of offer)) (again offer (call_bytes xid call) xid (procedure_of call) nobody (arguments_of call) (is_call offer xid call small e))
     ∙ rw (arguments_asked call fits) (ap (λ (c : model.Call). Ok (heard_as xid c)) (call_same (form_of offer) call))

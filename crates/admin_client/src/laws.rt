@@ -8,6 +8,7 @@ ghost use Rattle.rpc_msg.specs.declared.offer.Offer.{Offer};
 ghost use Rattle.rpc_msg.specs.Offer.{offers};
 ghost use Rattle.rpc_msg.specs.Heads.{nobody};
 ghost use Rattle.rpc_msg.specs.Hearing.{AreBytes, AsksForBy};
+ghost use Rattle.rpc_msg.specs.Records.{caller_by};
 ghost use Rattle.rpc_msg.specs.Replies.{auth_shape, reply_bytes};
 ghost use Rattle.admin_client.specs.declared.call.AdminCall.{AdminCall};
 ghost use Rattle.admin_client.specs.declared.fault.AdminFault.TheVariants.{Refused};
@@ -19,14 +20,14 @@ ghost use Rattle.admin_client.specs.Telling.{head_shape, refused_by, success, to
 
 use rpc_msg::call_heads_are_exact;
 
-/// Every server that offers the procedure of a call hears it as that call of nobody in particular
-/// (RFC 5531 section 9).
+/// Every server that offers the procedure of a call hears it as that call of nobody in particular,
+/// under its xid (RFC 5531 section 9).
 pub fn calls_are_heard()
     ensures { (offer : Offer) (xid : ℕ) (call : AdminCall)
         → xid < 2 ^ 32
         → CallFits call
         → offers offer (procedure_of call) ≡ true
-        → AsksForBy offer (call_bytes xid call) xid (model_call call) nobody }
+        → AsksForBy offer (call_bytes xid call) xid (model_call call) (caller_by xid nobody) }
 {
     call_heads_are_exact();
 }

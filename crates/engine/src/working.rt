@@ -62,7 +62,7 @@ fn run_on(
     let call = Run {
         alloc,
         call: &running.message.call,
-        caller: running.message.caller,
+        caller: &running.message.caller,
         moment: running.moment,
         ahead: None,
     };

@@ -109,12 +109,12 @@ impl Envelope {
     }
 
     /// Its call, and whom that acts for.
-    pub(crate) fn asked(&self) -> (&Call, Caller)
+    pub(crate) fn asked(&self) -> (&Call, &Caller)
         ensures call { result.0.now ≡ self.now.call }
-        ensures caller { result.1 ≡ self.now.caller }
+        ensures caller { result.1.now ≡ self.now.caller }
     {
         let served = &*self.served;
-        (&served.call, served.caller)
+        (&served.call, &served.caller)
     }
 
     /// It tries another node.

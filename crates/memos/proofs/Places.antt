@@ -9,7 +9,7 @@ use Rattle.nfs_model.specs.Serial.Once.{change_of, is_recent, memos_after, memos
 use Rattle.nfs_values.specs.Caller.{caller_of}
 use Rattle.nfs_values.specs.Moment.{moment_of}
 use Rattle.memos.specs.declared.place.Place.{Place}
-use Rattle.memos.specs.Kept.{asks, change_kept, memo_kept, memo_with, memos_kept, told_kept}
+use Rattle.memos.specs.Kept.{asks, change_kept, memo_kept, memo_with, memos_kept, told_kept, Keeps}
 
 -- ---- what is told
 
@@ -99,6 +99,11 @@ pub kept-there : (places : List Place) (new : Place) (at : ℕ) (call : Call) (a
     → Some (told_kept new.results) ≡ told_of answer → is_some (change_of call) ≡ true → change_kept new.change ≡ change_of call
     → memos_kept (slice_set places at new) ≡ memos_after (memos_kept places) (caller_of new.caller) call (moment_of new.moment) answer
 kept-there places new at call answer is same there kept = kept-if places new at (change_of call) (told_of answer) is same there kept
+
+-- results that are to be kept, once they are
+pub told-kept : (told : Option Told) (kept : Told) → Keeps told kept → is_some told ≡ true → Some kept ≡ told
+told-kept None kept keeps is = absurd cc
+told-kept (Some told) kept keeps is = ap Some keeps
 
 -- ---- as they begin
 

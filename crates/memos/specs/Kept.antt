@@ -1,5 +1,5 @@
 -- What a place keeps, as the model has it.
-use Rattle.std.specs.Prelude.{ℕ, Bool, false, List, Option, Some, None, take, map}
+use Rattle.std.specs.Prelude.{◌≡◌, ℕ, Bool, false, List, Option, Some, None, take, map}
 use Rattle.std.specs.Option.{option_map}
 use Rattle.nfs_model.specs.Memo as model
 use Rattle.nfs_model.specs.Memo.{Change, Sets, Creates, MakesDirectory, Removes, RemovesDirectory, Renames, Memo}
@@ -44,6 +44,11 @@ told_kept (results.Set change) = model.ToldSet (change_of change)
 told_kept (results.Made object directory) = model.ToldMade (shown_of object) (change_of directory)
 told_kept (results.Gone directory) = model.ToldGone (change_of directory)
 told_kept (results.Renamed from to) = model.ToldRenamed (change_of from) (change_of to)
+
+-- what is told is kept, if anything is told
+abbrev pub Keeps : Option model.Told → model.Told → Type 0
+Keeps None kept = Unit {0}
+Keeps (Some told) kept = kept ≡ told
 
 abbrev pub memo_with : Place → Change → Memo
 memo_with p change =

@@ -12,7 +12,7 @@ ghost use Rattle.memos.specs.Told.{procedure_told};
 
 use crate::change::is_remembered;
 use crate::place::{Place, place_of};
-use crate::results::{Remembered, results_of};
+use crate::results::{Remembered, is_kept};
 use nfs_values::{Answer, Call, Caller, Moment, VolumeNumber};
 use std::alloc::{AllocError, Global};
 use std::marker::Model;
@@ -70,9 +70,9 @@ fn remember_in(places: &mut [Place], caller: &Caller, call: &Call, moment: Momen
     ensures { memos_kept places.new ≡ memos_after (memos_kept places.old) (caller_of caller.now)
         (call_of call.now) (moment_of moment) (answer_of answer.now) }
 {
-    let Some(results) = results_of(answer) else {
+    if !is_kept(answer) {
         return;
-    };
+    }
     let Some(at) = place_of(caller, places.len()) else {
         return;
     };
@@ -80,7 +80,7 @@ fn remember_in(places: &mut [Place], caller: &Caller, call: &Call, moment: Momen
     if place.change.put(call) {
         place.caller = *caller;
         place.moment = moment;
-        place.results = results;
+        place.results.put(answer);
     }
 }
 

@@ -1,7 +1,6 @@
 //! Results that are remembered.
 
-ghost use Rattle.std.specs.Prelude.{◌≡◌};
-ghost use Rattle.std.specs.Option.{option_map};
+ghost use Rattle.std.specs.Prelude.{◌≡◌, is_some};
 ghost use Rattle.nfs_model.specs.Memo.{ToldGone, ToldMade};
 ghost use Rattle.nfs_model.specs.Types.{GoneDone};
 ghost use Rattle.nfs_model.specs.Serial.Once.{answer_told, told_of};
@@ -16,7 +15,7 @@ ghost use Rattle.nfs_values.specs.Answer.{
 };
 ghost use Rattle.nfs_values.specs.Attributes.{change_of, shown_of};
 ghost use Rattle.nfs_values.specs.Call.{call_of};
-ghost use Rattle.memos.specs.Kept.{told_kept};
+ghost use Rattle.memos.specs.Kept.{Keeps, told_kept};
 ghost use Rattle.memos.specs.Told.{procedure_told};
 
 use nfs_values::answer::{MakeResults, RenameResults};
@@ -75,64 +74,78 @@ impl Results {
     pub(crate) const EMPTY: Results = Results::Set(NO_CHANGE);
 }
 
-/// What is kept of an answer.
-pub(crate) fn results_of(answer: &Answer) -> Option<Results>
-    ensures { option_map told_kept result ≡ told_of (answer_of answer.now) }
+/// Whether an answer is to be kept.
+pub(crate) fn is_kept(answer: &Answer) -> bool
+    ensures { result ≡ is_some (told_of (answer_of answer.now)) }
 {
     match answer {
-        Answer::SetAttributes(results) => results_of_set(results),
-        Answer::Create(results) => results_of_making(results),
-        Answer::MakeDirectory(results) => results_of_making(results),
-        Answer::Remove(results) => results_of_removal(results),
-        Answer::RemoveDirectory(results) => results_of_removal(results),
-        Answer::Rename(results) => results_of_renaming(results),
-        _ => None,
+        Answer::SetAttributes(results) => results.is_ok(),
+        Answer::Create(results) => results.is_ok(),
+        Answer::MakeDirectory(results) => results.is_ok(),
+        Answer::Remove(results) => results.is_ok(),
+        Answer::RemoveDirectory(results) => results.is_ok(),
+        Answer::Rename(results) => results.is_ok(),
+        _ => false,
     }
 }
 
-/// What is kept of a SETATTR's.
-fn results_of_set(results: &Result<Change, Status>) -> Option<Results>
-    ensures { option_map told_kept result ≡ told_of (result_of attributes_set 2 results.now) }
-{
-    match results {
-        Ok(change) => Some(Results::Set(*change)),
-        Err(_) => None,
+// Each is put where it stays, since results are large.
+impl Results {
+    /// Keeps what is to be kept of an answer.
+    pub(crate) fn put(&mut self, answer: &Answer)
+        ensures { Keeps (told_of (answer_of answer.now)) (told_kept self.new) }
+    {
+        match answer {
+            Answer::SetAttributes(results) => self.put_set(results),
+            Answer::Create(results) => self.put_made(results),
+            Answer::MakeDirectory(results) => self.put_made(results),
+            Answer::Remove(results) => self.put_gone(results),
+            Answer::RemoveDirectory(results) => self.put_gone(results),
+            Answer::Rename(results) => self.put_renamed(results),
+            _ => {}
+        }
     }
-}
 
-/// What is kept of a CREATE's or MKDIR's.
-fn results_of_making(results: &Result<MakeResults, Status>) -> Option<Results>
-    ensures { option_map told_kept result ≡ told_of (result_of node_made 2 results.now) }
-{
-    match results {
-        Ok(made) => Some(Results::Made {
-            object: made.object,
-            directory: made.directory,
-        }),
-        Err(_) => None,
+    /// Keeps those of a SETATTR.
+    fn put_set(&mut self, results: &Result<Change, Status>)
+        ensures { Keeps (told_of (result_of attributes_set 2 results.now)) (told_kept self.new) }
+    {
+        if let Ok(change) = results {
+            *self = Results::Set(*change);
+        }
     }
-}
 
-/// What is kept of a REMOVE's or RMDIR's.
-fn results_of_removal(results: &Result<Change, Status>) -> Option<Results>
-    ensures { option_map told_kept result ≡ told_of (result_of name_gone 2 results.now) }
-{
-    match results {
-        Ok(directory) => Some(Results::Gone(*directory)),
-        Err(_) => None,
+    /// Keeps those of a CREATE or MKDIR.
+    fn put_made(&mut self, results: &Result<MakeResults, Status>)
+        ensures { Keeps (told_of (result_of node_made 2 results.now)) (told_kept self.new) }
+    {
+        if let Ok(made) = results {
+            *self = Results::Made {
+                object: made.object,
+                directory: made.directory,
+            };
+        }
     }
-}
 
-/// What is kept of a RENAME's.
-fn results_of_renaming(results: &Result<RenameResults, Status>) -> Option<Results>
-    ensures { option_map told_kept result ≡ told_of (result_of name_moved 4 results.now) }
-{
-    match results {
-        Ok(moved) => Some(Results::Renamed {
-            from: moved.from,
-            to: moved.to,
-        }),
-        Err(_) => None,
+    /// Keeps those of a REMOVE or RMDIR.
+    fn put_gone(&mut self, results: &Result<Change, Status>)
+        ensures { Keeps (told_of (result_of name_gone 2 results.now)) (told_kept self.new) }
+    {
+        if let Ok(directory) = results {
+            *self = Results::Gone(*directory);
+        }
+    }
+
+    /// Keeps those of a RENAME.
+    fn put_renamed(&mut self, results: &Result<RenameResults, Status>)
+        ensures { Keeps (told_of (result_of name_moved 4 results.now)) (told_kept self.new) }
+    {
+        if let Ok(moved) = results {
+            *self = Results::Renamed {
+                from: moved.from,
+                to: moved.to,
+            };
+        }
     }
 }
 
@@ -145,7 +158,7 @@ pub struct Remembered<'a> {
 impl<'a> Model for Remembered<'a> {
     ghost use Rattle.nfs_model.specs.Memo.{Told};
     ghost use Rattle.nfs_model.specs.volume.Codes.{coded_told};
-    ghost use Rattle.memos.specs.Kept.{told_kept};
+    ghost use Rattle.memos.specs.Kept.{Keeps, told_kept};
 
     ghost Value = { Told };
 

@@ -34,7 +34,7 @@ pub fn run<N: TaskNode<Parcel<Files>, ParcelKinds>>(
         HasExactly kind_in L a (N.parcels L a held.new) }
     ensures runs { let L = layout_of layout.now in let a = affinity_of affinity in
         HasRun task.entry.call.now
-        (caller_of task.entry.caller) (moment_of task.entry.moment)
+        (caller_of task.entry.caller.now) (moment_of task.entry.moment)
         L a (N.parcels L a held.old) result (N.parcels L a held.new) }
 {
     N::work::<Run>(task, layout, affinity, held)

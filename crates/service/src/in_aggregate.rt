@@ -36,7 +36,7 @@ pub fn run_on_aggregate(
         (aggregate_set (layout_of layout.now) aggregate held.old) }
     ensures runs { RunsOnAll (layout_of layout.now) (aggregate_lens aggregate)
         (task_under (trees.Aggregate aggregate)
-        (Ask (call_of run.entry.call.now) (caller_of run.entry.caller))
+        (Ask (call_of run.entry.call.now) (caller_of run.entry.caller.now))
         (moment_of run.entry.moment))
         (aggregate_set (layout_of layout.now) aggregate held.old) (outcome_of result)
         (aggregate_set (layout_of layout.now) aggregate held.new) }

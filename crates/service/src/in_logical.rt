@@ -64,6 +64,7 @@ use std::alloc::AllocError;
 /// Runs a call on the parcels under Volume Logical of its volume: its home, or where a WRITE moved.
 /// A WRITE that the stock has too few blocks for has to run on Volume, as any call that isn't on
 /// names, attributes or bytes would.
+#[inline(never)] // else its outcome is moved once more
 pub fn run_on_logical(
     run: Run,
     layout: &Layout,
@@ -74,7 +75,7 @@ pub fn run_on_logical(
     requires whole { HasVolume volume.0 logical_lens [] (logical_before held.old) }
     ensures runs { RunsOn volume.0 logical_lens
         (call_on (layout_of layout.now) (trees.Logical volume.0)
-        (caller_of run.entry.caller) (moment_of run.entry.moment)
+        (caller_of run.entry.caller.now) (moment_of run.entry.moment)
         (call_of run.entry.call.now))
         (logical_before held.old) (outcome_of result) (logical_after held.old held.new) }
     ensures moved { UnlessReplied (outcome_of result) (held.new ≡ held.old) }
@@ -83,10 +84,11 @@ pub fn run_on_logical(
     look_ahead(run.ahead, volume, held);
     let fileid = fileid_of_call(layout, run.call);
     let named = Named { volume, fileid };
-    match tell(run, held, named) {
-        Some(outcome) => outcome,
-        None => change_once(run, layout, held, named),
+    // a value that is returned from here isn't moved once more
+    if let Some(outcome) = tell(run, held, named) {
+        return outcome;
     }
+    change_once(run, layout, held, named)
 }
 
 /// Reads in advance what calls to come look for, if that is noted.
@@ -102,7 +104,7 @@ fn tell(run: Run, held: &LogicalHeld<Files>, named: Named) -> Option<Outcome>
     ensures told { is_some result ≡ is_told run.entry.call.now }
     ensures runs { IfSome result (λ outcome. (layout : trees.Layout)
         → RunsOn named.volume.0 logical_lens
-        (call_named layout (named_of named) (caller_of run.entry.caller)
+        (call_named layout (named_of named) (caller_of run.entry.caller.now)
         (moment_of run.entry.moment) (call_of run.entry.call.now))
         (logical_before held.now) (outcome_of outcome) (logical_before held.now)) }
 {
@@ -139,7 +141,7 @@ fn tell_page(run: Run, held: &LogicalHeld<Files>, named: Named) -> Option<Outcom
     ensures told { is_some result ≡ is_of_page_or_object run.entry.call.now }
     ensures runs { IfSome result (λ outcome. (layout : trees.Layout)
         → RunsOn named.volume.0 logical_lens
-        (call_named layout (named_of named) (caller_of run.entry.caller)
+        (call_named layout (named_of named) (caller_of run.entry.caller.now)
         (moment_of run.entry.moment) (call_of run.entry.call.now))
         (logical_before held.now) (outcome_of outcome) (logical_before held.now)) }
 {
@@ -186,7 +188,7 @@ fn tell_object(run: Run, held: &LogicalHeld<Files>, named: Named) -> Option<Outc
     ensures told { is_some result ≡ is_of_object run.entry.call.now }
     ensures runs { IfSome result (λ outcome. (layout : trees.Layout)
         → RunsOn named.volume.0 logical_lens
-        (call_named layout (named_of named) (caller_of run.entry.caller)
+        (call_named layout (named_of named) (caller_of run.entry.caller.now)
         (moment_of run.entry.moment) (call_of run.entry.call.now))
         (logical_before held.now) (outcome_of outcome) (logical_before held.now)) }
 {
@@ -217,7 +219,7 @@ fn change_once(run: Run, layout: &Layout, held: &mut LogicalHeld<Files>, named: 
         (trees.Logical named.volume.0) }
     requires whole { HasVolume named.volume.0 logical_lens [] (logical_before held.old) }
     ensures runs { RunsOn named.volume.0 logical_lens
-        (call_named (layout_of layout.now) (named_of named) (caller_of run.entry.caller)
+        (call_named (layout_of layout.now) (named_of named) (caller_of run.entry.caller.now)
         (moment_of run.entry.moment) (call_of run.entry.call.now))
         (logical_before held.old) (outcome_of result) (logical_after held.old held.new) }
     ensures moved { UnlessReplied (outcome_of result) (held.new ≡ held.old) }
@@ -240,7 +242,7 @@ fn change(run: Run, layout: &Layout, held: &mut LogicalHeld<Files>, named: Named
         (trees.Logical named.volume.0) }
     requires whole { HasVolume named.volume.0 logical_lens [] (logical_before held.old) }
     ensures runs { RunsOn named.volume.0 logical_lens
-        (effect_named (layout_of layout.now) (named_of named) (caller_of run.entry.caller)
+        (effect_named (layout_of layout.now) (named_of named) (caller_of run.entry.caller.now)
         (moment_of run.entry.moment) (call_of run.entry.call.now))
         (logical_before held.old) (outcome_of result) (logical_after held.old held.new) }
     ensures moved { UnlessReplied (outcome_of result) (held.new ≡ held.old) }
@@ -301,7 +303,7 @@ fn rename_here(
         ≡ Some (trees.Logical named.volume.0) }
     requires whole { HasVolume named.volume.0 logical_lens [] (logical_before held.old) }
     ensures runs { RunsOn named.volume.0 logical_lens
-        (effect_named (layout_of layout.now) (named_of named) (caller_of run.entry.caller)
+        (effect_named (layout_of layout.now) (named_of named) (caller_of run.entry.caller.now)
         (moment_of run.entry.moment) (call_of (calls.Rename from.now to.now)))
         (logical_before held.old) (outcome_of result) (logical_after held.old held.new) }
     ensures moved { UnlessReplied (outcome_of result) (held.new ≡ held.old) }

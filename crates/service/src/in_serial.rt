@@ -24,7 +24,7 @@ pub fn run_on_serial(run: Run, layout: &Layout, held: &SerialHeld<Files>) -> Out
     requires at { IsRunAt (layout_of layout.now) run.call.now trees.Serial }
     ensures runs { RunsOnAll (layout_of layout.now) serial_lens
         (task_under trees.Serial (Ask (call_of run.entry.call.now)
-        (caller_of run.entry.caller)) (moment_of run.entry.moment))
+        (caller_of run.entry.caller.now)) (moment_of run.entry.moment))
         (serial_set (layout_of layout.now) held.now) (outcome_of result)
         (serial_set (layout_of layout.now) held.now) }
 {

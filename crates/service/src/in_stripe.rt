@@ -39,7 +39,7 @@ pub fn run_on_stripe(
     requires stripe { IsStripeOf (layout_of layout.now) volume.0 stripe held.old.own }
     ensures runs { RunsOn volume.0 (stripe_lens stripe)
         (call_on (layout_of layout.now) (trees.Stripe volume.0 stripe)
-        (caller_of run.entry.caller) (moment_of run.entry.moment)
+        (caller_of run.entry.caller.now) (moment_of run.entry.moment)
         (call_of run.entry.call.now))
         held.old.own (outcome_of result) held.new.own }
     ensures moved { UnlessReplied (outcome_of result) (held.new ≡ held.old) }
@@ -60,7 +60,7 @@ fn run_on_bytes(
     requires bytes { BytesLieIn held.old.own.stripes stripe fileid.0 (call_of run.call.now) }
     ensures runs { (layout : trees.Layout) → RunsOn volume.0 (stripe_lens stripe)
         (call_of_node layout (trees.Stripe volume.0 stripe) fileid.0
-        (caller_of run.entry.caller) (moment_of run.entry.moment)
+        (caller_of run.entry.caller.now) (moment_of run.entry.moment)
         (call_of run.entry.call.now))
         held.old.own (outcome_of result) held.new.own }
     ensures moved { UnlessReplied (outcome_of result) (held.new ≡ held.old) }

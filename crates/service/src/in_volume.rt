@@ -35,7 +35,7 @@ pub fn run_on_volume(
     requires at { IsRunAt (layout_of layout.now) run.call.now (trees.Volume volume.0) }
     requires whole { HasVolume volume.0 volume_lens [] (volume_before held.old) }
     ensures runs { RunsOn volume.0 volume_lens
-        (call_on (layout_of layout.now) (trees.Volume volume.0) (caller_of run.entry.caller)
+        (call_on (layout_of layout.now) (trees.Volume volume.0) (caller_of run.entry.caller.now)
         (moment_of run.entry.moment) (call_of run.entry.call.now))
         (volume_before held.old) (outcome_of result) (volume_after held.old held.new) }
     ensures moved { UnlessReplied (outcome_of result) (held.new ≡ held.old) }

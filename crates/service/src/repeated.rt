@@ -18,13 +18,13 @@ use service_names::Ahead;
 /// What the caller of a call was answered before, if the volume remembers it.
 pub(crate) fn told_before(run: Run, own: &LogicalParcel, volume: VolumeNumber) -> Option<Answer>
     ensures { option_map answer_of result ≡ option_map (answer_told volume.0)
-        (told_before own.now.memos (caller_of run.entry.caller) (call_of run.entry.call.now)
+        (told_before own.now.memos (caller_of run.entry.caller.now) (call_of run.entry.call.now)
         (moment_of run.entry.moment)) }
 {
     let told = own
         .get()
         .memos
-        .told(&run.caller, run.call, run.moment, volume);
+        .told(run.caller, run.call, run.moment, volume);
     if told.is_some() {
         count(run.ahead);
     }
@@ -40,11 +40,11 @@ fn count(ahead: Option<&Ahead>) {
 
 /// Remembers what a call came to, where it succeeded.
 pub(crate) fn remember(run: Run, own: &mut LogicalParcel, outcome: &Outcome)
-    ensures { own.new ≡ remembering (caller_of run.entry.caller) (call_of run.entry.call.now)
+    ensures { own.new ≡ remembering (caller_of run.entry.caller.now) (call_of run.entry.call.now)
         (moment_of run.entry.moment) (outcome_of outcome.now) own.old }
 {
     if let Outcome::Replied(Reply::Success(answer)) = outcome {
         let memos = &mut own.get_mut().memos;
-        memos.remember(&run.caller, run.call, run.moment, answer);
+        memos.remember(run.caller, run.call, run.moment, answer);
     }
 }

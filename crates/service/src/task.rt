@@ -24,7 +24,7 @@ pub struct Run<'a> {
     pub alloc: Global,
     pub call: &'a Call,
     /// Whom it acts for.
-    pub caller: Caller,
+    pub caller: &'a Caller,
     pub moment: Moment,
     /// What calls to come look for, if that is noted.
     pub ahead: Option<&'a Ahead>,
@@ -40,7 +40,7 @@ impl<'a> Task<Parcel<Files>, ParcelKinds> for Run<'a> {
     ghost asks = { λ run. AsksFor run.call.now };
 
     ghost does = { λ run. HasRun run.call.now
-        (caller_of run.caller) (moment_of run.moment) };
+        (caller_of run.caller.now) (moment_of run.moment) };
 
     fn on_stripe(
         self,

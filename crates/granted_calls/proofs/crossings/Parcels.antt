@@ -3,6 +3,7 @@ use denote.Param.Send.{IsSend, sendable, view_send}
 use Rattle.std.proofs.Crossing.{crosses, Box-send}
 use Rattle.std.proofs.MapsCrossing.{BTreeMap-send}
 use Rattle.inodes.proofs.inodes.Inodes.TheSendSync as inodes
+use Rattle.memos.proofs.memos.Memos.TheSendSync as memos
 use Rattle.nfs_values.proofs.verifier.Verifier.TheSendSync as verifier
 use Rattle.filer_state.specs.contracts.directory_map.DirectoryMap as Map
 use Rattle.filer_state.specs.contracts.directory_map.DirectoryMap.TheInside as MapInside
@@ -29,7 +30,7 @@ logical-send = struct-send Logical.the_type (
       search sendable depth 20,
       (
         search sendable depth 20,
-        (search sendable depth 20, (inodes.the_send, (map-send, (stock.the_send, (dead.the_send, tt))))),
+        (search sendable depth 20, (inodes.the_send, (map-send, (stock.the_send, (dead.the_send, (memos.the_send, tt)))))),
       ),
     ),
   ),

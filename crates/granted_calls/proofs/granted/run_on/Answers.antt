@@ -41,7 +41,7 @@ returns-in-Replied g c = record {
   ran = record {
     outcome = c.work_node.result;
     says = c.in-Replied.is ∙ ap Replied (sym c.tell.ensures);
-    ran = ran-from (layout_in c.args.filer.now) _ c.layout-layout.ensures c.args.envelope.now c.asked.result.0.now c.asked.result.1
+    ran = ran-from (layout_in c.args.filer.now) _ c.layout-layout.ensures c.args.envelope.now c.asked.result.0.now c.asked.result.1.now
         c.asked.ensures.call c.asked.ensures.caller c.args.moment c.work_node.result (λ (x : Layout). node_lent x c.args.grant.now)
         (λ (x : Layout). node_lent x c.work_node.new.node) c.work_node.ensures.done c.work_node.ensures.whole;
   };
@@ -52,7 +52,7 @@ returns-in-Starved g c = record {
   ran = record {
     outcome = c.work_node.result;
     says = (c.in-Starved.is, c.tell_starved.ensures);
-    ran = ran-from (layout_in c.args.filer.now) _ c.layout-layout.ensures c.args.envelope.now c.asked.result.0.now c.asked.result.1
+    ran = ran-from (layout_in c.args.filer.now) _ c.layout-layout.ensures c.args.envelope.now c.asked.result.0.now c.asked.result.1.now
         c.asked.ensures.call c.asked.ensures.caller c.args.moment c.work_node.result (λ (x : Layout). node_lent x c.args.grant.now)
         (λ (x : Layout). node_lent x c.work_node.new.node) c.work_node.ensures.done c.work_node.ensures.whole;
   };
@@ -63,7 +63,7 @@ returns-in-Moved g c = record {
   ran = record {
     outcome = c.work_node.result;
     says = c.in-Moved.is;
-    ran = ran-from (layout_in c.args.filer.now) _ c.layout-layout.ensures c.args.envelope.now c.asked.result.0.now c.asked.result.1
+    ran = ran-from (layout_in c.args.filer.now) _ c.layout-layout.ensures c.args.envelope.now c.asked.result.0.now c.asked.result.1.now
         c.asked.ensures.call c.asked.ensures.caller c.args.moment c.work_node.result (λ (x : Layout). node_lent x c.args.grant.now)
         (λ (x : Layout). node_lent x c.work_node.new.node) c.work_node.ensures.done c.work_node.ensures.whole;
   };

@@ -22,7 +22,7 @@ returns-in-Grow-clause-runs c =
     let L = layout_of c.args.layout.now in
     let g = c.args.aggregate in
     let at = subst (λ (k : Call). IsRunAt L k (Aggregate g)) c.in-Grow.is c.requires.at in
-    grown-runs L g c.in-Grow.volume.0 c.in-Grow.ranges at.1 c.args.run.call.now (caller_of c.args.run.caller) (moment_of c.args.run.moment)
+    grown-runs L g c.in-Grow.volume.0 c.in-Grow.ranges at.1 c.args.run.call.now (caller_of c.args.run.caller.now) (moment_of c.args.run.moment)
     c.args.held.now c.grow.new.held c.grow.result (outcome_of c.outcome_grown.result) (ap call_of c.in-Grow.is) c.outcome_grown.ensures c.grow.ensures.right
 
 pub returns-in-Grow-clause-moved : goal.returns-in-Grow-clause-moved

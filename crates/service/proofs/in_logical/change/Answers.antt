@@ -32,7 +32,7 @@ returns-in-SetAttributes-clause-runs c =
     let moment = moment_of c.args.run.moment in
     let asked = c.in-SetAttributes in
     let told = answer_of (answers.SetAttributes c.set_attributes-told.result) in
-    subst (λ (call : Call). RunsOn n.volume logical_lens (effect_named L n (caller_of c.args.run.caller) moment (call_of call))
+    subst (λ (call : Call). RunsOn n.volume logical_lens (effect_named L n (caller_of c.args.run.caller.now) moment (call_of call))
     old (Replied (Success told)) new) (sym asked.is)
     (served-runs n.volume (setattr_call asked.handle (Logical n.volume) n.fileid (set_of asked.set) (option_map moment_of asked.guard) moment) old new told
     (c.set_attributes-told.ensures.right asked.handle))
@@ -46,7 +46,7 @@ returns-in-Write-clause-runs c =
     let asked = c.in-Write in
     let told = c.write_in_logical-told in
     writing-effect (layout_of c.args.layout.now) n c.args.run.call.now asked.handle asked.offset asked.count asked.bytes c.as_slice-written.result.now
-    (caller_of c.args.run.caller) (moment_of c.args.run.moment) (logical_before c.args.held.now) (logical_after c.args.held.now told.new.held)
+    (caller_of c.args.run.caller.now) (moment_of c.args.run.moment) (logical_before c.args.held.now) (logical_after c.args.held.now told.new.held)
     (outcome_of c.outcome_written.result) (written_outcome n.volume told.result) (ap call_of asked.is) c.as_slice-written.ensures
     c.outcome_written.ensures (told.ensures.right n.volume asked.handle)
 
@@ -62,7 +62,7 @@ returns-in-Create-clause-runs c =
     let n = named_of c.args.named in
     let old = logical_before c.args.held.now in
     let new = logical_after c.args.held.now c.create-made.new.held in
-    let caller = caller_of c.args.run.caller in
+    let caller = caller_of c.args.run.caller.now in
     let moment = moment_of c.args.run.moment in
     let asked = c.in-Create in
     subst (λ (call : Call). RunsOn n.volume logical_lens (effect_named L n caller moment (call_of call)) old (outcome_of c.outcome_created.result) new)
@@ -79,7 +79,7 @@ returns-in-MakeDirectory-clause-runs c =
     let n = named_of c.args.named in
     let old = logical_before c.args.held.now in
     let new = logical_after c.args.held.now c.make_directory-made.new.held in
-    let caller = caller_of c.args.run.caller in
+    let caller = caller_of c.args.run.caller.now in
     let moment = moment_of c.args.run.moment in
     let asked = c.in-MakeDirectory in
     subst (λ (call : Call). RunsOn n.volume logical_lens (effect_named L n caller moment (call_of call)) old
@@ -100,7 +100,7 @@ returns-in-Remove-clause-runs c =
     let moment = moment_of c.args.run.moment in
     let target = c.in-Remove.target in
     let told = answer_of (answers.Remove c.remove-told.result) in
-    subst (λ (call : Call). RunsOn n.volume logical_lens (effect_named L n (caller_of c.args.run.caller) moment (call_of call))
+    subst (λ (call : Call). RunsOn n.volume logical_lens (effect_named L n (caller_of c.args.run.caller.now) moment (call_of call))
     old (Replied (Success told)) new) (sym c.in-Remove.is)
     (served-runs n.volume (remove_call target.directory (Logical n.volume) n.fileid target.name moment) old new told
     (subst (λ (name : List ℕ). Removes n.volume n.fileid name moment old c.remove-told.result new) c.as_bytes.ensures c.remove-told.ensures.right
@@ -115,7 +115,7 @@ returns-in-RemoveDirectory-clause-runs c =
     let moment = moment_of c.args.run.moment in
     let target = c.in-RemoveDirectory.target in
     let told = answer_of (answers.RemoveDirectory c.remove_directory-told.result) in
-    subst (λ (call : Call). RunsOn n.volume logical_lens (effect_named L n (caller_of c.args.run.caller) moment (call_of call))
+    subst (λ (call : Call). RunsOn n.volume logical_lens (effect_named L n (caller_of c.args.run.caller.now) moment (call_of call))
     old (Replied (Success told)) new) (sym c.in-RemoveDirectory.is)
     (served-runs n.volume (rmdir_call target.directory (Logical n.volume) n.fileid target.name moment) old new told
     (subst (λ (name : List ℕ). RemovesDirectory n.volume n.fileid name moment old c.remove_directory-told.result new)
@@ -132,5 +132,5 @@ returns-in-Rename-clause-runs c =
     let n = named_of c.args.named in
     let old = logical_before c.args.held.now in
     let new = logical_after c.args.held.now c.rename_here.new.held in
-    subst (λ (call : Call). RunsOn n.volume logical_lens (effect_named L n (caller_of c.args.run.caller) (moment_of c.args.run.moment) (call_of call))
+    subst (λ (call : Call). RunsOn n.volume logical_lens (effect_named L n (caller_of c.args.run.caller.now) (moment_of c.args.run.moment) (call_of call))
     old (outcome_of c.rename_here.result) new) (sym c.in-Rename.is) c.rename_here.ensures.runs

@@ -16,14 +16,14 @@ use Rattle.service.proofs.in_logical.change_once.Goals as goal
 
 pub returns-in-Some-clause-runs : goal.returns-in-Some-clause-runs
 returns-in-Some-clause-runs c =
-    again-runs (layout_of c.args.layout.now) (named_of c.args.named) (caller_of c.args.run.caller) (moment_of c.args.run.moment)
+    again-runs (layout_of c.args.layout.now) (named_of c.args.named) (caller_of c.args.run.caller.now) (moment_of c.args.run.moment)
     (call_of c.args.run.call.now) (logical_before c.args.held.now) (answer_of c.in-Some.answer) c.in-Some.ensures
 
 pub returns-clause-runs : goal.returns-clause-runs
 returns-clause-runs c =
     let L = layout_of c.args.layout.now in
     let n = named_of c.args.named in
-    let caller = caller_of c.args.run.caller in
+    let caller = caller_of c.args.run.caller.now in
     let moment = moment_of c.args.run.moment in
     let call = call_of c.args.run.call.now in
     let old = logical_before c.args.held.now in
@@ -39,5 +39,5 @@ returns-clause-moved c =
     let mid = c.change-outcome.new.held in
     let outcome = outcome_of c.change-outcome.result in
     subst (λ (o : LogicalValue). UnlessReplied outcome (record mid { own = o } ≡ c.args.held.now)) (sym c.remember.ensures)
-    (unless-remembered (layout_of c.args.layout.now) (named_of c.args.named) (caller_of c.args.run.caller) (moment_of c.args.run.moment)
+    (unless-remembered (layout_of c.args.layout.now) (named_of c.args.named) (caller_of c.args.run.caller.now) (moment_of c.args.run.moment)
     (call_of c.args.run.call.now) outcome (λ (o : LogicalValue). record mid { own = o }) mid.own c.args.held.now c.change-outcome.ensures.moved)

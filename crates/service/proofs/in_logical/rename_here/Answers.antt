@@ -24,7 +24,7 @@ returns-clause-runs c =
     let moment = moment_of c.args.run.moment in
     let old = logical_before c.args.held.now in
     let new = logical_after c.args.held.now c.rename.new.held in
-    renaming-runs L n other from.directory from.name to.directory to.name (caller_of c.args.run.caller) moment old new
+    renaming-runs L n other from.directory from.name to.directory to.name (caller_of c.args.run.caller.now) moment old new
     c.rename.result (outcome_of c.outcome_renamed.result) (at-logical (named_by L to.directory) (Logical n.volume) both.1).names refl
     c.outcome_renamed.ensures
     (subst (λ (id : ℕ). Renames n.volume n.fileid from.name id to.name moment old c.rename.result new) c.fileid_of-other.ensures

@@ -14,12 +14,12 @@ returns-in-Some-clause-runs c =
     let L = layout_of c.args.layout.now in
     let v = c.args.volume.0 in
     let old = logical_before c.args.held.now in
-    runs-here L v logical_lens (Logical v) c.fileid_of_call-fileid.result.0 (call_of c.args.run.call.now) (caller_of c.args.run.caller)
+    runs-here L v logical_lens (Logical v) c.fileid_of_call-fileid.result.0 (call_of c.args.run.call.now) (caller_of c.args.run.caller.now)
     (moment_of c.args.run.moment) old old (outcome_of c.in-Some.outcome) c.fileid_of_call-fileid.ensures (c.in-Some.ensures.runs L)
 
-pub returns-in-None-clause-runs : goal.returns-in-None-clause-runs
-returns-in-None-clause-runs c =
+pub returns-clause-runs : goal.returns-clause-runs
+returns-clause-runs c =
     let v = c.args.volume.0 in
     runs-here (layout_of c.args.layout.now) v logical_lens (Logical v) c.fileid_of_call-fileid.result.0 (call_of c.args.run.call.now)
-    (caller_of c.args.run.caller) (moment_of c.args.run.moment) (logical_before c.args.held.now) (logical_after c.args.held.now c.change_once.new.held)
+    (caller_of c.args.run.caller.now) (moment_of c.args.run.moment) (logical_before c.args.held.now) (logical_after c.args.held.now c.change_once.new.held)
     (outcome_of c.change_once.result) c.fileid_of_call-fileid.ensures c.change_once.ensures.runs

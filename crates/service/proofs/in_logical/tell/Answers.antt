@@ -28,7 +28,7 @@ returns-in-GetAttributes c =
     record {
       told = sym (ap is_told c.in-GetAttributes.is);
       runs = λ layout. subst (λ (call : Call). RunsOn n.volume logical_lens
-          (call_named layout n (caller_of c.args.run.caller) (moment_of c.args.run.moment) (call_of call))
+          (call_named layout n (caller_of c.args.run.caller.now) (moment_of c.args.run.moment) (call_of call))
           old (Replied (Success told)) old) (sym c.in-GetAttributes.is)
           (served-runs n.volume (getattr_call c.in-GetAttributes.handle (Logical n.volume) n.fileid) old old told
           (c.get_attributes-told.ensures.right c.in-GetAttributes.handle));
@@ -44,7 +44,7 @@ returns-in-Lookup c =
     record {
       told = sym (ap is_told c.in-Lookup.is);
       runs = λ layout. subst (λ (call : Call). RunsOn n.volume logical_lens
-          (call_named layout n (caller_of c.args.run.caller) moment (call_of call))
+          (call_named layout n (caller_of c.args.run.caller.now) moment (call_of call))
           old (Replied (Success told)) old) (sym c.in-Lookup.is)
           (served-runs n.volume (lookup_call target.directory (Logical n.volume) n.fileid target.name moment) old old told
           (subst (λ (name : List ℕ). LooksUp n.volume n.fileid name old c.lookup-told.result) c.as_bytes.ensures c.lookup-told.ensures.right
@@ -62,7 +62,7 @@ returns-in-Read c =
     record {
       told = sym (ap is_told c.in-Read.is);
       runs = λ layout. subst (λ (call : Call). RunsOn n.volume logical_lens
-          (call_named layout n (caller_of c.args.run.caller) (moment_of c.args.run.moment) (call_of call))
+          (call_named layout n (caller_of c.args.run.caller.now) (moment_of c.args.run.moment) (call_of call))
           old (outcome_of c.outcome_read.result) old) (sym asked.is)
           (subst (λ (o : Outcome). RunsOn n.volume logical_lens (read_call asked.handle (Logical n.volume) n.fileid asked.offset asked.count) old o old)
           (sym c.outcome_read.ensures) (c.read_in_logical-told.ensures.right n.volume asked.handle));
@@ -76,7 +76,7 @@ returns-in-Commit c =
     record {
       told = sym (ap is_told c.in-Commit.is);
       runs = λ layout. subst (λ (call : Call). RunsOn n.volume logical_lens
-          (call_named layout n (caller_of c.args.run.caller) (moment_of c.args.run.moment) (call_of call))
+          (call_named layout n (caller_of c.args.run.caller.now) (moment_of c.args.run.moment) (call_of call))
           old (Replied (Success told)) old) (sym c.in-Commit.is)
           (served-runs n.volume (commit_call c.in-Commit.handle (Logical n.volume) n.fileid) old old told (c.commit-told.ensures.right c.in-Commit.handle));
     }
@@ -90,7 +90,7 @@ returns-in-MountBelow c =
     record {
       told = sym (ap is_told asked.is);
       runs = λ layout. subst (λ (call : Call). RunsOn n.volume logical_lens
-          (call_named layout n (caller_of c.args.run.caller) (moment_of c.args.run.moment) (call_of call))
+          (call_named layout n (caller_of c.args.run.caller.now) (moment_of c.args.run.moment) (call_of call))
           old (Replied (Success told)) old) (sym asked.is)
           (served-runs n.volume (mount_call asked.root (Logical n.volume) n.fileid asked.path) old old told
           (subst (λ (path : List ℕ). MountsBelow n.volume n.fileid path old c.mount_below-told.result) c.as_bytes-in-MountBelow.ensures

@@ -23,11 +23,11 @@ returns-in-CheckAccess c =
     let n = named_of c.args.named in
     let old = logical_before c.args.held.now in
     let told = answer_of (answers.CheckAccess c.check_access-told.result) in
-    let asks = access_call c.in-CheckAccess.handle (Logical n.volume) n.fileid c.in-CheckAccess.asked (credential_of c.args.run.caller.credential) in
+    let asks = access_call c.in-CheckAccess.handle (Logical n.volume) n.fileid c.in-CheckAccess.asked (credential_of c.args.run.caller.now.credential) in
     record {
       told = sym (ap is_of_object c.in-CheckAccess.is);
       runs = λ layout. subst (λ (call : Call). RunsOn n.volume logical_lens
-          (call_named layout n (caller_of c.args.run.caller) (moment_of c.args.run.moment) (call_of call))
+          (call_named layout n (caller_of c.args.run.caller.now) (moment_of c.args.run.moment) (call_of call))
           old (Replied (Success told)) old) (sym c.in-CheckAccess.is)
           (served-runs n.volume asks old old told (c.check_access-told.ensures.right c.in-CheckAccess.handle));
     }
@@ -41,7 +41,7 @@ returns-in-FilesystemInfo c =
     record {
       told = sym (ap is_of_object c.in-FilesystemInfo.is);
       runs = λ layout. subst (λ (call : Call). RunsOn n.volume logical_lens
-          (call_named layout n (caller_of c.args.run.caller) (moment_of c.args.run.moment) (call_of call))
+          (call_named layout n (caller_of c.args.run.caller.now) (moment_of c.args.run.moment) (call_of call))
           old (Replied (Success told)) old) (sym c.in-FilesystemInfo.is)
           (served-runs n.volume asks old old told (c.filesystem_info-told.ensures.right c.in-FilesystemInfo.handle));
     }
@@ -55,7 +55,7 @@ returns-in-PathConfiguration c =
     record {
       told = sym (ap is_of_object c.in-PathConfiguration.is);
       runs = λ layout. subst (λ (call : Call). RunsOn n.volume logical_lens
-          (call_named layout n (caller_of c.args.run.caller) (moment_of c.args.run.moment) (call_of call))
+          (call_named layout n (caller_of c.args.run.caller.now) (moment_of c.args.run.moment) (call_of call))
           old (Replied (Success told)) old) (sym c.in-PathConfiguration.is)
           (served-runs n.volume asks old old told (c.path_configuration-told.ensures.right c.in-PathConfiguration.handle));
     }

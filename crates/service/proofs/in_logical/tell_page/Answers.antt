@@ -21,7 +21,7 @@ returns-in-ReadDirectory c =
     record {
       told = sym (ap is_of_page_or_object c.in-ReadDirectory.is);
       runs = λ layout. subst (λ (call : Call). RunsOn n.volume logical_lens
-          (call_named layout n (caller_of c.args.run.caller) (moment_of c.args.run.moment) (call_of call))
+          (call_named layout n (caller_of c.args.run.caller.now) (moment_of c.args.run.moment) (call_of call))
           old (outcome_of c.outcome_listed.result) old) (sym asked.is)
           (subst (λ (o : Outcome). RunsOn n.volume logical_lens
           (readdir_call asked.directory (Logical n.volume) n.fileid asked.cookie.0 asked.verifier.0 asked.count) old o old)
@@ -36,7 +36,7 @@ returns-in-ReadDirectoryPlus c =
     record {
       told = sym (ap is_of_page_or_object c.in-ReadDirectoryPlus.is);
       runs = λ layout. subst (λ (call : Call). RunsOn n.volume logical_lens
-          (call_named layout n (caller_of c.args.run.caller) (moment_of c.args.run.moment) (call_of call))
+          (call_named layout n (caller_of c.args.run.caller.now) (moment_of c.args.run.moment) (call_of call))
           old (outcome_of c.outcome_listed_plus.result) old) (sym asked.is)
           (subst (λ (o : Outcome). RunsOn n.volume logical_lens
           (readdirplus_call asked.directory (Logical n.volume) n.fileid asked.cookie.0 asked.verifier.0 asked.names_count asked.count) old o old)

@@ -20,7 +20,7 @@ pub returns : goal.returns
 returns c =
     let L = layout_of c.args.layout.now in
     let set = serial_set L c.args.held.now in
-    let caller = caller_of c.args.run.caller in
+    let caller = caller_of c.args.run.caller.now in
     let moment = moment_of c.args.run.moment in
     record {
       runs = subst (λ (call : Call). RunsOnAll L serial_lens (task_under Serial (Ask (call_of call) caller) moment) set

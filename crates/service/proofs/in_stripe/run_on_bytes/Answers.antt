@@ -27,7 +27,7 @@ returns-in-Read-clause-runs c layout =
     let asked = c.in-Read in
     let lies = subst (λ (call : Call). BytesLieIn s.stripes i f (call_of call)) asked.is c.requires.bytes in
     subst (λ (call : Call). RunsOn v (stripe_lens i)
-    (call_of_node layout (Stripe v i) f (caller_of c.args.run.caller) (moment_of c.args.run.moment) (call_of call))
+    (call_of_node layout (Stripe v i) f (caller_of c.args.run.caller.now) (moment_of c.args.run.moment) (call_of call))
     s (outcome_of c.outcome_read.result) s) (sym asked.is)
     (subst (λ (o : Outcome). RunsOn v (stripe_lens i) (read_call asked.handle (Stripe v i) f asked.offset asked.count) s o s) (sym c.outcome_read.ensures)
     (c.read_in_stripe.ensures.right v i asked.handle c.requires.there lies))
@@ -47,7 +47,7 @@ returns-in-Write-clause-runs c layout =
     let told = c.write_in_stripe-told in
     let lies = subst (λ (call : Call). BytesLieIn s.stripes i f (call_of call)) asked.is c.requires.bytes in
     writing-runs layout v (stripe_lens i) (Stripe v i) f c.args.run.call.now asked.handle asked.offset asked.count asked.bytes
-    c.as_slice-written.result.now (caller_of c.args.run.caller) (moment_of c.args.run.moment) s told.new.held.own
+    c.as_slice-written.result.now (caller_of c.args.run.caller.now) (moment_of c.args.run.moment) s told.new.held.own
     (outcome_of c.outcome_written_in_stripe.result) (writing_outcome v told.result) (ap call_of asked.is) c.as_slice-written.ensures
     c.outcome_written_in_stripe.ensures (told.ensures.right v i asked.handle c.requires.there lies)
 

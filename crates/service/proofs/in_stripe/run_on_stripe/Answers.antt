@@ -22,6 +22,6 @@ returns-clause-runs c =
     let L = layout_of c.args.layout.now in
     let v = c.args.volume.0 in
     let i = c.args.stripe in
-    runs-here L v (stripe_lens i) (Stripe v i) c.fileid_of_call-fileid.result.0 (call_of c.args.run.call.now) (caller_of c.args.run.caller)
+    runs-here L v (stripe_lens i) (Stripe v i) c.fileid_of_call-fileid.result.0 (call_of c.args.run.call.now) (caller_of c.args.run.caller.now)
     (moment_of c.args.run.moment) c.args.held.now.own c.run_on_bytes.new.held.own (outcome_of c.run_on_bytes.result) c.fileid_of_call-fileid.ensures
     (c.run_on_bytes.ensures.runs L)

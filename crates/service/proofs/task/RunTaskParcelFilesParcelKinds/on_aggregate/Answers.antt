@@ -42,7 +42,7 @@ returns-clause-does c =
     let g = c.aggregate_number.result in
     let at = is-aggregate a c.aggregate_number.result
     (aggregate-kind L a held c.requires.node c.requires.exact) c.aggregate_number.ensures in
-    let caller = caller_of c.args.self.caller in
+    let caller = caller_of c.args.self.caller.now in
     let moment = moment_of c.args.self.moment in
     let known = aggregate-whole L c.args.layout.now.lawful g a at c.requires.node held c.requires.asks.1 in
     let there = subst (λ (b : Affinity). IsRunAt L call b) at c.requires.asks.0 in

@@ -42,7 +42,7 @@ returns-clause-does c =
     let i = c.stripe_number.result in
     let at = is-stripe a c.volume_number.result c.stripe_number.result
     (stripe-kind L a held c.requires.node c.requires.exact) c.volume_number.ensures c.stripe_number.ensures in
-    let caller = caller_of c.args.self.caller in
+    let caller = caller_of c.args.self.caller.now in
     let moment = moment_of c.args.self.moment in
     let known = stripe-whole L c.args.layout.now.lawful v i a at c.requires.node held c.requires.asks.1 in
     let ran = c.run_on_stripe.ensures.runs in

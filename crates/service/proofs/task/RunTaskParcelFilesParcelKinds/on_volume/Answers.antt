@@ -43,7 +43,7 @@ returns-clause-does c =
     let v = c.volume_number.result in
     let at = is-volume a c.volume_number.result
     (volume-kind L a held c.requires.node c.requires.exact) c.volume_number.ensures in
-    let caller = caller_of c.args.self.caller in
+    let caller = caller_of c.args.self.caller.now in
     let moment = moment_of c.args.self.moment in
     let known = volume-whole L c.args.layout.now.lawful v a at c.requires.node held c.requires.asks.1 in
     let ran = c.run_on_volume.ensures.runs in
