@@ -1,5 +1,5 @@
 -- What the rows are about: two volumes of one range on an aggregate with one spare range, and small states of the first.
-use Rattle.std.specs.Prelude.{ℕ, List, [], ◌∷◌, replicate, length, Some, None}
+use Rattle.std.specs.Prelude.{ℕ, false, List, [], ◌∷◌, replicate, length, Some, None}
 use Rattle.std.specs.Ordering.{nat_cmp}
 use Rattle.std.specs.FinMap.{from_sorted}
 use Rattle.std.specs.FinSet.{FinSet}
@@ -29,7 +29,7 @@ at seconds = record { seconds = seconds; nanoseconds = 0 }
 
 -- the caller without a credential
 abbrev pub nobody : Caller
-nobody = record { credential = record { uid = 65534; gid = 65534; gids = [] }; xid = 0; peer = 0 }
+nobody = record { credential = record { uid = 65534; gid = 65534; gids = [] }; xid = 0; peer = 0; checked = false; reads_only = false }
 
 -- a node of volume 0
 abbrev pub h : ℕ → List ℕ

@@ -114,9 +114,18 @@ coded_dead =
 -- ---- what is remembered of calls
 
 abbrev pub coded_caller : Coded Caller
-coded_caller = code_by ((ℕ × (ℕ × List ℕ)) × (ℕ × ℕ)) (coded× (coded× coded_ℕ (coded× coded_ℕ (coded_list coded_ℕ))) (coded× coded_ℕ coded_ℕ))
-    (λ c. ((c.credential.uid, (c.credential.gid, c.credential.gids)), (c.xid, c.peer)))
-    (λ p. record { credential = record { uid = p.0.0; gid = p.0.1.0; gids = p.0.1.1 }; xid = p.1.0; peer = p.1.1 }) (λ _. refl)
+coded_caller =
+    code_by ((ℕ × (ℕ × List ℕ)) × ((ℕ × ℕ) × (Bool × Bool)))
+    (coded× (coded× coded_ℕ (coded× coded_ℕ (coded_list coded_ℕ))) (coded× (coded× coded_ℕ coded_ℕ) (coded× coded_bool coded_bool)))
+    (λ c. ((c.credential.uid, (c.credential.gid, c.credential.gids)), ((c.xid, c.peer), (c.checked, c.reads_only))))
+    (λ p. record {
+      credential = record { uid = p.0.0; gid = p.0.1.0; gids = p.0.1.1 };
+      xid = p.1.0.0;
+      peer = p.1.0.1;
+      checked = p.1.1.0;
+      reads_only = p.1.1.1;
+    })
+    (λ _. refl)
 
 abbrev pub time_out : SetTime → Bool ⊎ Moment
 time_out Keep = inl false
