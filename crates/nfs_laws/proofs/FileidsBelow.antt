@@ -85,7 +85,7 @@ opens_below : (verifier : List ℕ) (from : ℕ) (layouts : List VolumeLayout) �
 opens_below verifier from [] i v e = absurd cc
 opens_below verifier from (x ∷ xs) zero v e =
     let same : opening_volume verifier from x ≡ v = cc in
-    subst (λ (w : VolumeState). AreBelow w.next w.nodes) same (root_below (root_node x.begun))
+    subst (λ (w : VolumeState). AreBelow w.next w.nodes) same (root_below (root_node x.root x.begun))
 opens_below verifier from (x ∷ xs) (suc i) v e = opens_below verifier (from + 1) xs i v e
 
 run_below : (layout : Layout) (verifier : List ℕ) (calls : List FinishedCall) → HaveBelow (server_after (opening layout verifier) calls)

@@ -27,6 +27,14 @@ pub record Caller : Type 0 where
   pub checked : Bool  -- whether the owner, the groups and the mode of objects are asked (our profile)
   pub reads_only : Bool  -- whether it may change nothing (our profile)
 
+-- ---- what is owned
+
+-- of an object: its mode, its owner and its group (fattr3, RFC 1813 section 2.6)
+pub record Ownership : Type 0 where
+  pub mode : ℕ
+  pub uid : ℕ
+  pub gid : ℕ
+
 -- ---- what is asked
 
 -- time_how, with set_atime or set_mtime (RFC 1813 section 2.6)

@@ -7,11 +7,11 @@ use Rattle.std.specs.FinSet as sets
 use Rattle.nfs_model.specs.Types.{Moment, Caller, Call, Create, Write, Unchecked, Reply, Success, Failed}
 use Rattle.nfs_model.specs.Types.{Status, Shown, Regular, DirectoryKind, Before, Wcc, Listed, SetAttributes}
 use Rattle.nfs_model.specs.Tree.{Layout, VolumeLayout}
-use Rattle.nfs_model.specs.Server.{Attributes, Node, File, Directory, VolumeState, Server, opening, opening_volume, handle_bytes, start_of_times}
+use Rattle.nfs_model.specs.Server.{Attributes, Node, File, Directory, VolumeState, Server, opening, opening_volume, handle_bytes, start_of_times, root_of_root}
 use Rattle.nfs_model.specs.Serial.Create.{no_attributes}
 
 abbrev pub one_range : VolumeLayout
-one_range = record { aggregate = 0; ranges = 1; stripes = 8; mebibytes = 16; range_blocks = 1024; inodes = 65536; most_steps = 4; begun = start_of_times; remembered = 0 }
+one_range = record { aggregate = 0; ranges = 1; stripes = 8; mebibytes = 16; range_blocks = 1024; inodes = 65536; most_steps = 4; begun = start_of_times; root = root_of_root; remembered = 0 }
 
 abbrev pub layout : Layout
 layout = record { spare = 1 ∷ []; volumes = one_range ∷ (one_range ∷ []) }

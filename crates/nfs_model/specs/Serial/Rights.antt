@@ -2,7 +2,7 @@
 -- "File Access Permissions").
 use Rattle.std.specs.Prelude.{ℕ, ◌+◌, ◌-◌, ◌/◌, ◌%◌, ◌==◌, Bool, true, not, ◌&&◌, ◌||◌, if◌then◌else◌}
 use Rattle.std.specs.List.{list_any}
-use Rattle.nfs_model.specs.Types.{Credential, Kind, Regular, DirectoryKind, Shown}
+use Rattle.nfs_model.specs.Types.{Credential, Ownership, Kind, Regular, DirectoryKind, Shown}
 use Rattle.nfs_model.specs.Server.{Attributes, Node, File, Directory}
 
 -- whether a number has a bit, which is given by its value
@@ -24,8 +24,14 @@ pub record Protection : Type 0 where
   pub uid : ℕ
   pub gid : ℕ
 
+abbrev pub owned : Kind → Ownership → Protection
+owned kind o = record { kind = kind; mode = o.mode; uid = o.uid; gid = o.gid }
+
+abbrev pub ownership_of : Attributes → Ownership
+ownership_of a = record { mode = a.mode; uid = a.uid; gid = a.gid }
+
 abbrev pub protected : Kind → Attributes → Protection
-protected kind a = record { kind = kind; mode = a.mode; uid = a.uid; gid = a.gid }
+protected kind a = owned kind (ownership_of a)
 
 abbrev pub protection : Node → Protection
 protection (File f) = protected Regular f.attributes
