@@ -10,7 +10,7 @@ use Rattle.filer_state.specs.state.Jobs.{Replied}
 use Rattle.filer_state.specs.state.Lenses.{LogicalSet, logical_lens}
 use Rattle.filer_state.specs.state.Promises.{RightOnVolume}
 use Rattle.filer_state.specs.state.Calls.{VolumeCall, ServesOn, unasked}
-use Rattle.filer_state.specs.state.Changes.{getattr_answer, without_size, setattr_logical}
+use Rattle.filer_state.specs.state.Changes.{getattr_answer}
 
 abbrev pub getattr_call : List ℕ → Affinity → ℕ → VolumeCall
 getattr_call handle node fileid = record { call = Getattr handle; caller = unasked; node = node; fileid = fileid; run = λ volume. getattr volume fileid }
@@ -24,9 +24,3 @@ abbrev pub GetattrIsRight : Type 0
 GetattrIsRight = (v fileid : ℕ) (handle : List ℕ) (node : Affinity) (set : LogicalSet)
     → RightOnVolume v logical_lens (ServesOn (getattr_call handle node fileid) false) [] [] set
     (Replied (Success (getattr_answer v fileid (get set.own.inodes.inodes fileid) (file_touch set.stripes fileid)))) set
-
--- and so are the answer of SETATTR without a size, and what it leaves
-abbrev pub SetattrIsRight : Type 0
-SetattrIsRight = (v fileid : ℕ) (handle : List ℕ) (node : Affinity) (set : SetAttributes) (guard : Option Moment) (moment : Moment) (s : LogicalSet)
-    → RightOnVolume v logical_lens (ServesOn (setattr_call handle node fileid (without_size set) guard moment) false) [] [] s
-    (Replied (Success (setattr_logical v fileid (without_size set) guard moment s).answer)) (setattr_logical v fileid (without_size set) guard moment s).set
