@@ -137,7 +137,7 @@ fn opening_logical(
         largest: layout.largest_of(volume),
         most_inodes: layout.inodes_of(volume),
         most_steps: layout.steps_of(volume),
-        inodes: Inodes::new(alloc, layout.begun_of(volume))?,
+        inodes: Inodes::new(alloc, layout.root_of(volume), layout.begun_of(volume))?,
         directories,
         stock: Stock::new(alloc),
         dead: DeadBlocks::new(alloc, layout.range_blocks_of(volume))?,

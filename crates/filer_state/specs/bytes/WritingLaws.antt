@@ -6,13 +6,14 @@ use Rattle.nfs_model.specs.Server.{most_bytes}
 use Rattle.nfs_model.specs.Serial.Write.{Writing, write}
 use Rattle.nfs_model.specs.volume.Stripes.{StripeValue}
 use Rattle.filer_state.specs.state.Lenses.{stripe_lens}
-use Rattle.filer_state.specs.state.Calls.{VolumeCall, LieIn}
+use Rattle.filer_state.specs.state.Calls.{VolumeCall, unasked, LieIn}
 use Rattle.filer_state.specs.state.Running.{RunsOn}
 use Rattle.filer_state.specs.bytes.Writing.{stripe_write}
 
 abbrev pub write_call : List ℕ → Affinity → ℕ → Writing → VolumeCall
 write_call handle node fileid w = record {
   call = Write handle w.offset w.count w.written;
+  caller = unasked;
   node = node;
   fileid = fileid;
   run = λ volume. write w volume fileid;

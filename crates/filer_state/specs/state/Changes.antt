@@ -5,7 +5,7 @@ use Rattle.nfs_model.specs.Types.{Moment, SetAttributes, Status, Shown, Regular,
 use Rattle.nfs_model.specs.Types.{SetattrDone, Failed, Stale, NotSynchronous, Invalid}
 use Rattle.nfs_model.specs.Server.{Attributes, block_size}
 use Rattle.nfs_model.specs.Shown.{effective_attributes, before_of, directory_size}
-use Rattle.nfs_model.specs.Serial.Setattr.{is_stale_guard, has_bad_time, set_attributes}
+use Rattle.nfs_model.specs.Serial.Setattr.{set_attributes}
 use Rattle.nfs_model.specs.volume.Inodes as inodes
 use Rattle.nfs_model.specs.volume.Inodes.{InodeKind, RegularFile, Inode, inode_set}
 use Rattle.nfs_model.specs.volume.Stripes.{StripeValue, touch_taken}
@@ -67,15 +67,7 @@ abbrev pub getattr_answer : ℕ → ℕ → Option Inode → Option Moment → A
 getattr_answer volume fileid None touch = Failed Stale 0
 getattr_answer volume fileid (Some inode) touch = GetattrDone (shown_inode volume fileid inode touch)
 
--- ---- SETATTR without a size (RFC 1813 section 3.3.2)
-
--- attributes but a size
-abbrev pub without_size : SetAttributes → SetAttributes
-without_size set = record set { size = None }
-
--- the first check that fails, by the ctime that holds
-abbrev pub setattr_check : SetAttributes → Option Moment → Moment → Option Status
-setattr_check set guard ctime = if is_stale_guard guard ctime then Some NotSynchronous else if has_bad_time set then Some Invalid else None
+-- ---- SETATTR (RFC 1813 section 3.3.2)
 
 -- the inode with the attributes set, from those that hold
 abbrev pub inode_after : SetAttributes → Moment → Option Moment → Inode → Inode
@@ -85,21 +77,3 @@ inode_after set moment touch inode = record inode { attributes = set_attributes 
 pub record LogicalAnswer : Type 0 where
   pub answer : Answer
   pub set : LogicalSet
-
--- a failure has two absent parts, the attributes before and after
-abbrev pub setattr_checked : ℕ → ℕ → Option Status → Inode → Inode → Option Moment → LogicalSet → LogicalAnswer
-setattr_checked volume fileid (Some status) old new touch s = record { answer = Failed status 2; set = s }
-setattr_checked volume fileid None old new touch s = record {
-  answer = SetattrDone (record { before = before_of (shown_inode volume fileid old touch); after = shown_inode volume fileid new None });
-  set = node_set fileid new s;
-}
-
-abbrev pub setattr_inode : ℕ → ℕ → SetAttributes → Option Moment → Moment → Option Inode → Option Moment → LogicalSet → LogicalAnswer
-setattr_inode volume fileid set guard moment None touch s = record { answer = Failed Stale 2; set = s }
-setattr_inode volume fileid set guard moment (Some inode) touch s =
-    setattr_checked volume fileid (setattr_check set guard (attributes_now touch inode.attributes inode.kind).ctime) inode
-    (inode_after set moment touch inode) touch s
-
-abbrev pub setattr_logical : ℕ → ℕ → SetAttributes → Option Moment → Moment → LogicalSet → LogicalAnswer
-setattr_logical volume fileid set guard moment s =
-    setattr_inode volume fileid set guard moment (get s.own.inodes.inodes fileid) (file_touch s.stripes fileid) s
