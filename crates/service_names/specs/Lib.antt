@@ -1,5 +1,4 @@
 pub mod Shown
-pub mod Access
 pub mod Listing
 pub mod Promises
 pub mod Changing

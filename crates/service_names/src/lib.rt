@@ -23,6 +23,7 @@ mod naming;
 mod new_inodes;
 mod node;
 mod parent;
+mod protection;
 pub mod removing;
 pub mod setting;
 mod showing;
