@@ -1,5 +1,6 @@
 -- Lemmas alone, which no reader has to believe: laws of calls on attributes, for proofs above.
 pub mod Kept
+pub mod Settled
 pub mod Getting
 pub mod Setting
 pub mod Setattr

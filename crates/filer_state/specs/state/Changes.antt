@@ -1,14 +1,15 @@
 -- What calls show and change of what is under Logical, beyond the words of each value (RFC 1813 section 2.6).
 use Rattle.std.specs.Prelude.{ℕ, ◌+◌, ◌*◌, List, map, Option, Some, None, if◌then◌else◌}
 use Rattle.std.specs.FinMap.{get}
-use Rattle.nfs_model.specs.Types.{Moment, SetAttributes, Status, Shown, Regular, DirectoryKind, Answer, GetattrDone}
+use Rattle.nfs_model.specs.Types.{Moment, Ownership, SetAttributes, Status, Shown, Regular, DirectoryKind, Answer, GetattrDone}
 use Rattle.nfs_model.specs.Types.{SetattrDone, Failed, Stale, NotSynchronous, Invalid}
 use Rattle.nfs_model.specs.Server.{Attributes, block_size}
 use Rattle.nfs_model.specs.Shown.{effective_attributes, before_of, directory_size}
+use Rattle.nfs_model.specs.Serial.Rights.{ownership_of}
 use Rattle.nfs_model.specs.Serial.Setattr.{set_attributes}
 use Rattle.nfs_model.specs.volume.Inodes as inodes
 use Rattle.nfs_model.specs.volume.Inodes.{InodeKind, RegularFile, Inode, inode_set}
-use Rattle.nfs_model.specs.volume.Stripes.{StripeValue, touch_taken}
+use Rattle.nfs_model.specs.volume.Stripes.{StripeValue, touch_taken, file_card_owned}
 use Rattle.filer_state.specs.state.Tree.{file_touch}
 use Rattle.filer_state.specs.state.Lenses.{LogicalSet}
 
@@ -55,11 +56,18 @@ abbrev pub attributes_now : Option Moment → Attributes → InodeKind → Attri
 attributes_now touch a (RegularFile size filled verifier) = effective_attributes touch a
 attributes_now touch a (inodes.DirectoryKind parent subdirectories) = a
 
+-- a node of a stripe settles, and its card has an owner
+abbrev pub stripe_settled : ℕ → Ownership → StripeValue → StripeValue
+stripe_settled fileid owner s = file_card_owned fileid owner (touch_taken fileid s)
+
+abbrev pub stripes_settled : ℕ → Ownership → List StripeValue → List StripeValue
+stripes_settled fileid owner stripes = map (stripe_settled fileid owner) stripes
+
 -- a node settles and has an inode set
 abbrev pub node_set : ℕ → Inode → LogicalSet → LogicalSet
 node_set fileid inode set = record {
   own = record set.own { inodes = inode_set fileid inode set.own.inodes };
-  stripes = touches_taken fileid set.stripes;
+  stripes = stripes_settled fileid (ownership_of inode.attributes) set.stripes;
 }
 
 -- what GETATTR answers by them (RFC 1813 section 3.3.1)

@@ -10,7 +10,9 @@ use Rattle.std.specs.FinMap.{get, len, insert}
 use Rattle.std.specs.FinSet as sets
 use Rattle.std.specs.Cmp.{nat_cmp_total}
 use Rattle.std.specs.FinMap.{nat_cmp-IsAntisymmetric}
+use Rattle.nfs_model.specs.Types.{Ownership}
 use Rattle.nfs_model.specs.Server.{Attributes, Node, File, Directory}
+use Rattle.nfs_model.specs.Serial.Rights.{ownership_of}
 use Rattle.nfs_model.specs.Shown.{settled}
 use Rattle.nfs_model.specs.Parts.{Hand}
 use Rattle.depot_rule.specs.Sums.{total}
@@ -23,29 +25,64 @@ use Rattle.nfs_model.specs.volume.lemmas.Numbered.{get-insert_at, same-answers}
 use Rattle.filer_state.specs.state.Contents.{VolumeContents}
 use Rattle.filer_state.specs.state.Tree.{stripe_at, file_filled, node_by, node_of}
 use Rattle.filer_state.specs.state.Names.{DirectoryMap}
-use Rattle.filer_state.specs.state.WellFormed.{StripeFits, WellFormed}
+use Rattle.filer_state.specs.state.WellFormed.{StripeFits, WellFormed, owner_shown, owner_by, owner_in}
 use Rattle.filer_state.specs.state.Partition.{times_in_stripe, times_in_hand}
 use Rattle.filer_state.specs.state.Sound.{IsSound}
 use Rattle.filer_state.specs.state.Lenses.{logical_lens}
-use Rattle.filer_state.specs.state.Changes.{touches_taken, node_set}
-use Rattle.filer_state.specs.attributes.lemmas.Kept.{SameKinds, set-kinds, named-same, size-same, shown-same, shown-stays, stripe-taken, total-taken}
-use Rattle.filer_state.specs.attributes.lemmas.Kept.{filled-stays, bytes-stay, touch-gone, touch-stays}
+use Rattle.filer_state.specs.state.Changes.{stripe_settled, stripes_settled, node_set}
+use Rattle.filer_state.specs.attributes.lemmas.Kept.{SameKinds, set-kinds, named-same, size-same, shown-same, owner-stays}
+use Rattle.filer_state.specs.attributes.lemmas.Settled.{owner-here, owner-none, owner-other, shown-stays, stripe-settled, total-settled}
+use Rattle.filer_state.specs.attributes.lemmas.Settled.{filled-stays, bytes-stay, touch-gone, touch-stays}
 
 -- the volume after it
 abbrev pub set_in : ℕ → Inode → VolumeContents → VolumeContents
 set_in f inode p = logical_lens.put (node_set f inode (logical_lens.of p)) p
 
 module _ (p : VolumeContents) (f : ℕ) (old inode : Inode) (there : get p.logical.inodes.inodes f ≡ Some old) (same : inode.kind ≡ old.kind) where
+  -- who owns it then
+  abbrev owner : Ownership
+  owner = ownership_of inode.attributes
+
   kinds : SameKinds (inode_set f inode p.logical.inodes).inodes p.logical.inodes.inodes
   kinds = set-kinds p.logical.inodes f old inode there same
 
-  fits-still : (i : ℕ) (s : StripeValue) → StripeFits p.logical i s → StripeFits (set_in f inode p).logical i (touch_taken f s)
+  -- an inode's owner is on its card
+  owners-after : (s : StripeValue)
+      → ((q : ℕ) → option_map owner_shown (get s.cards q) ≡ option_map owner_in (get p.logical.inodes.inodes q))
+      → (q : ℕ) → option_map owner_shown (get (stripe_settled f owner s).cards q) ≡ option_map owner_in (get (inode_set f inode p.logical.inodes).inodes q)
+  owners-after s fits q = by (q == f) refl
+    where
+      taken : StripeValue
+      taken = touch_taken f s
+
+      was : option_map owner_shown (get taken.cards f) ≡ Some (owner_by old.attributes old.kind)
+      was = owner-stays f s f ∙ fits f ∙ ap (option_map owner_in) there
+
+      here : (k : InodeKind) → old.kind ≡ k → option_map owner_shown (get (stripe_settled f owner s).cards f) ≡ Some (owner_by inode.attributes k)
+      here (RegularFile size filled verifier) is =
+          owner-here f owner taken (ownership_of old.attributes) (was ∙ ap (λ (k : InodeKind). Some (owner_by old.attributes k)) is)
+      here (DirectoryKind parent subdirectories) is =
+          owner-none f owner taken (was ∙ ap (λ (k : InodeKind). Some (owner_by old.attributes k)) is)
+
+      by : (b : Bool) → (q == f) ≡ b
+          → option_map owner_shown (get (stripe_settled f owner s).cards q) ≡ option_map owner_in (get (inode_set f inode p.logical.inodes).inodes q)
+      by true e =
+          ap (λ (k : ℕ). option_map owner_shown (get (stripe_settled f owner s).cards k)) (eqb-true q f e)
+          ∙ here old.kind refl ∙ ap (λ (k : InodeKind). Some (owner_by inode.attributes k)) (sym same)
+          ∙ sym (ap (option_map owner_in) (inode-set-there p.logical.inodes f old inode there))
+          ∙ ap (λ (k : ℕ). option_map owner_in (get (inode_set f inode p.logical.inodes).inodes k)) (sym (eqb-true q f e))
+      by false e =
+          owner-other f owner taken q e ∙ owner-stays f s q ∙ fits q
+          ∙ sym (ap (option_map owner_in) (inode-set-other p.logical.inodes f inode q e))
+
+  fits-still : (i : ℕ) (s : StripeValue) → StripeFits p.logical i s → StripeFits (set_in f inode p).logical i (stripe_settled f owner s)
   fits-still i s fits = record {
     verifier = fits.verifier;
     stripes = fits.stripes;
     largest = fits.largest;
-    cards = λ q. shown-stays f s q ∙ fits.cards q
+    cards = λ q. shown-stays f owner s q ∙ fits.cards q
         ∙ sym (shown-same (get (inode_set f inode p.logical.inodes).inodes q) (get p.logical.inodes.inodes q) (kinds q));
+    owners = owners-after s fits.owners;
     long = record { long = fits.long.long };
     blocks = λ fileid block b e.
         let was = fits.blocks fileid block b e in
@@ -53,8 +90,8 @@ module _ (p : VolumeContents) (f : ℕ) (old inode : Inode) (there : get p.logic
   }
 
   filled-count : WellFormed p → (q : ℕ) (x : Inode) → get (inode_set f inode p.logical.inodes).inodes q ≡ Some x
-      → filled_blocks x.kind ≡ sets.len (file_filled (touches_taken f p.stripes) q)
-  filled-count well q x e = by (q == f) refl ∙ ap sets.len (sym (filled-stays f p.stripes q))
+      → filled_blocks x.kind ≡ sets.len (file_filled (stripes_settled f owner p.stripes) q)
+  filled-count well q x e = by (q == f) refl ∙ ap sets.len (sym (filled-stays f owner p.stripes q))
     where
       by : (b : Bool) → (q == f) ≡ b → filled_blocks x.kind ≡ sets.len (file_filled p.stripes q)
       by true h =
@@ -79,13 +116,13 @@ module _ (p : VolumeContents) (f : ℕ) (old inode : Inode) (there : get p.logic
           (sym (size-same (get (inode_set f inode p.logical.inodes).inodes q) (get p.logical.inodes.inodes q) (kinds q))) (well.logical.sizes q);
       named = named-same (inode_set f inode p.logical.inodes).inodes p.logical.inodes.inodes kinds p.logical.directories well.logical.named;
     };
-    as_many = length-map p.stripes (touch_taken f) ∙ well.as_many;
+    as_many = length-map p.stripes (stripe_settled f owner) ∙ well.as_many;
     stripes = λ i less.
-        let long = length-map p.stripes (touch_taken f) in
+        let long = length-map p.stripes (stripe_settled f owner) in
         let on : i < length p.stripes = omega arith in
-        subst (StripeFits (set_in f inode p).logical i) (sym (stripe-taken f p.stripes i on)) (fits-still i (stripe_at p.stripes i) (well.stripes i on));
+        subst (StripeFits (set_in f inode p).logical i) (sym (stripe-settled f owner p.stripes i on)) (fits-still i (stripe_at p.stripes i) (well.stripes i on));
     used = used-set-same p.logical.inodes f old inode well.logical.inodes there (ap filled_blocks same) ∙ well.used
-        ∙ sym (total-taken f (λ (s : StripeValue). len s.blocks) (λ s. refl) p.stripes);
+        ∙ sym (total-settled f owner (λ (s : StripeValue). len s.blocks) (λ s. refl) p.stripes);
     filled = filled-count well;
     sixteen = well.sixteen;
     some = well.some;
@@ -104,7 +141,7 @@ module _ (p : VolumeContents) (f : ℕ) (old inode : Inode) (there : get p.logic
     partition = λ n.
         let e = weigh n in
         let o = s.partition n in
-        let stripes = total-taken f (times_in_stripe n) (λ t. refl) p.stripes in
+        let stripes = total-settled f owner (times_in_stripe n) (λ t. refl) p.stripes in
         omega (arith, e, o, stripes);
   }
 
@@ -115,17 +152,17 @@ abbrev pub with_attributes : Attributes → Node → Node
 with_attributes a (File g) = File (record (settled g) { attributes = a })
 with_attributes a (Directory d) = Directory (record d { attributes = a })
 
-module _ (stripes : List StripeValue) (directories : DirectoryMap) (f : ℕ) where
+module _ (stripes : List StripeValue) (directories : DirectoryMap) (f : ℕ) (owner : Ownership) where
   abbrev taken : List StripeValue
-  taken = touches_taken f stripes
+  taken = stripes_settled f owner stripes
 
   pub this-node : (a b : Attributes) (kind : InodeKind)
       → node_by taken (get directories f) f a kind ≡ with_attributes a (node_by stripes (get directories f) f b kind)
   this-node a b (RegularFile size filled verifier) = λ j. File (record {
     attributes = a;
-    bytes = bytes-stay f stripes f size j;
-    filled = filled-stays f stripes f j;
-    touch = touch-gone f stripes j;
+    bytes = bytes-stay f owner stripes f size j;
+    filled = filled-stays f owner stripes f j;
+    touch = touch-gone f owner stripes j;
     verifier = verifier;
   })
   this-node a b (DirectoryKind parent subdirectories) = refl
@@ -134,9 +171,9 @@ module _ (stripes : List StripeValue) (directories : DirectoryMap) (f : ℕ) whe
       → node_by taken (get directories q) q a kind ≡ node_by stripes (get directories q) q a kind
   other-node q ne a (RegularFile size filled verifier) = λ j. File (record {
     attributes = a;
-    bytes = bytes-stay f stripes q size j;
-    filled = filled-stays f stripes q j;
-    touch = touch-stays f stripes q ne j;
+    bytes = bytes-stay f owner stripes q size j;
+    filled = filled-stays f owner stripes q j;
+    touch = touch-stays f owner stripes q ne j;
     verifier = verifier;
   })
   other-node q ne a (DirectoryKind parent subdirectories) = refl
