@@ -5,6 +5,7 @@ pub mod Changing
 pub mod Naming
 pub mod Cards
 pub mod Making
+pub mod Refusing
 pub mod lemmas
 pub use Rattle.filer_state.specs.changes.Named as NamedChanges
 pub use Rattle.filer_state.specs.changes.Dropping as DroppingChanges

@@ -51,9 +51,7 @@ pub fn create(
     ensures alike { logical_alike held.old held.new }
 {
     making_calls_are_right();
-    file_created(
-        alloc, held, volume, directory, name, mode, caller, moment,
-    )
+    file_created(alloc, held, volume, directory, name, mode, caller, moment)
 }
 
 /// MKDIR (RFC 1813 section 3.3.9), likewise: STALE, NOTDIR, what is wrong with the name, EXIST
@@ -77,9 +75,7 @@ pub fn make_directory(
     ensures alike { logical_alike held.old held.new }
 {
     making_calls_are_right();
-    directory_made(
-        alloc, held, volume, directory, name, set, caller, moment,
-    )
+    directory_made(alloc, held, volume, directory, name, set, caller, moment)
 }
 
 /// What CREATE comes to.

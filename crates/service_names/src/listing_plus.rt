@@ -32,7 +32,9 @@ use crate::telling::object_at;
 use filer_state::Files;
 use inodes::Inode;
 use nfs_values::answer::{DirectoryEntry, DirectoryEntryPlus, ReadDirectoryPlusResults};
-use nfs_values::{COUNT_LIMIT, Caller, Cookie, FileHandle, Fileid, Named, Status, Verifier, VolumeNumber};
+use nfs_values::{
+    COUNT_LIMIT, Caller, Cookie, FileHandle, Fileid, Named, Status, Verifier, VolumeNumber,
+};
 use parcels::LogicalHeld;
 use rights::may_search;
 use std::alloc::{AllocError, Global};

@@ -107,11 +107,7 @@ fn entry_of(
 
 /// That there is a directory which a caller may search: STALE where there is no node of the fileid,
 /// NOTDIR where it is a file, else ACCES.
-fn check_searched(
-    held: &LogicalHeld<Files>,
-    fileid: Fileid,
-    caller: &Caller,
-) -> Result<(), Status>
+fn check_searched(held: &LogicalHeld<Files>, fileid: Fileid, caller: &Caller) -> Result<(), Status>
     ensures { (answer : Answer) → in_searched (caller_of caller.now)
         (get held.now.own.inodes.inodes fileid.0) answer
         ≡ result_of (λ there. answer) 0 result }

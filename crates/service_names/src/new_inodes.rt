@@ -39,11 +39,7 @@ pub(crate) fn file_inode(mode: &CreateMode, caller: &Caller, parent: &Parent) ->
 }
 
 /// The inode of a directory that a caller makes in another.
-pub(crate) fn made_directory_inode(
-    set: &SetAttributes,
-    caller: &Caller,
-    parent: &Parent,
-) -> Inode
+pub(crate) fn made_directory_inode(set: &SetAttributes, caller: &Caller, parent: &Parent) -> Inode
     ensures { inode_value result ≡ made_directory_inode parent.now.fileid.0 (set_of set.now)
         (maker_in_parent caller.now parent.now) (moment_of parent.now.moment) }
 {

@@ -20,7 +20,7 @@ ghost use Rattle.service_names.specs.Changing.{MayBeSet, with_value};
 use crate::attributes::{attributes_now, set_fault, with_attributes};
 use crate::showing::{prior, shown, shown_now};
 use crate::sizing::{set_inode, size_file};
-use crate::touches::{latest_touch, take_touches};
+use crate::touches::{latest_touch, settle_stripes};
 use filer_state::Files;
 use filer_state::changes::setting_calls_are_right;
 use inodes::{Inode, InodeKind, StoredAttributes};
@@ -122,7 +122,8 @@ pub(crate) fn set_node(
     }
 }
 
-/// Sets the node of a fileid, whose inode this is, to attributes, where its touches are taken.
+/// Sets the node of a fileid, whose inode this is, to attributes: its touches are taken, and its
+/// cards get its owner.
 fn settle_node(
     held: &mut LogicalHeld<Files>,
     fileid: Fileid,
@@ -137,7 +138,7 @@ fn settle_node(
         (logical_before held.old) }
     ensures alike { logical_alike held.old held.new }
 {
-    take_touches(held, fileid);
+    settle_stripes(held, fileid, attributes.ownership());
     let changed = Inode {
         attributes,
         kind: inode.kind,

@@ -11,7 +11,7 @@ use Rattle.filer_state.specs.state.Sets.{logical_before}
 use Rattle.filer_state.specs.changes.Named.{directory_change}
 use Rattle.service_names.specs.Making.{naming_in_parent}
 use Rattle.service_names.specs.Naming.{node_value}
-use Rattle.service_names.proofs.Overs.{unchecked-upon, set-taken}
+use Rattle.service_names.proofs.Overs.{unchecked-upon}
 use Rattle.service_names.proofs.existing.set_existing.Goals as goal
 
 pub returns-then-sets_nothing-clause-told : goal.returns-then-sets_nothing-clause-told
