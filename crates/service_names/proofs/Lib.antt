@@ -23,3 +23,4 @@ mod News
 mod Made
 mod Objects
 mod Mounted
+mod Refused
