@@ -92,27 +92,19 @@ IsRunInLogical call = IsInLogical (route (call_of call))
 abbrev pub IsRun : Call → Type 0
 IsRun call = IsOnState (route (call_of call))
 
--- those of any object that tell of it by its attributes
-abbrev pub is_of_object : Call → Bool
-is_of_object (CheckAccess handle asked) = true
-is_of_object (FilesystemInfo handle) = true
-is_of_object (PathConfiguration handle) = true
-is_of_object call = false
-
--- those that ask for a page of a directory, and those of any object
-abbrev pub is_of_page_or_object : Call → Bool
-is_of_page_or_object (ReadDirectory directory cookie verifier count) = true
-is_of_page_or_object (ReadDirectoryPlus directory cookie verifier names_count count) = true
-is_of_page_or_object call = is_of_object call
-
 -- those under Logical that change nothing
 abbrev pub is_told : Call → Bool
 is_told (GetAttributes handle) = true
 is_told (Lookup target) = true
+is_told (CheckAccess handle asked) = true
 is_told (Read handle offset count) = true
+is_told (ReadDirectory directory cookie verifier count) = true
+is_told (ReadDirectoryPlus directory cookie verifier names_count count) = true
+is_told (FilesystemInfo handle) = true
+is_told (PathConfiguration handle) = true
 is_told (Commit handle) = true
 is_told (MountBelow root path) = true
-is_told call = is_of_page_or_object call
+is_told call = false
 
 -- the fileid that a handle names
 abbrev pub fileid_in : Option Named → ℕ
