@@ -1,5 +1,6 @@
 mod Latest
 mod Taking
+mod Settling
 mod Freed
 mod Sized
 mod Carded

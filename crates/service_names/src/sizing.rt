@@ -33,7 +33,8 @@ pub fn size_file(
         (logical_before held.old) }
     ensures alike { logical_alike held.old held.new }
 {
-    let left = size_stripes(held, fileid, size, inode.kind.filled());
+    let owner = attributes.ownership();
+    let left = size_stripes(held, fileid, size, owner, inode.kind.filled());
     let sized = Inode {
         attributes,
         kind: sized_kind(inode.kind, size, left),

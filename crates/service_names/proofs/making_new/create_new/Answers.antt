@@ -1,12 +1,11 @@
 use Rattle.std.proofs.Common.{◌∙◌, ap, sym}
 use Rattle.nfs_model.specs.Types.{SetAttributes}
 use Rattle.nfs_model.specs.Serial.Create.{asked_attributes}
-use Rattle.nfs_values.specs.Credential.{credential_of}
 use Rattle.nfs_values.specs.Moment.{moment_of}
 use Rattle.nfs_values.specs.Set.{mode_of}
 use Rattle.filer_state.specs.state.Sets.{logical_before}
 use Rattle.filer_state.specs.changes.Making.{create_check, file_inode}
-use Rattle.service_names.specs.Making.{naming_in_parent}
+use Rattle.service_names.specs.Making.{maker_in_parent, naming_in_parent}
 use Rattle.service_names.proofs.News.{would-make, create-not-full}
 use Rattle.service_names.proofs.Tying.{on-err}
 use Rattle.service_names.proofs.making_new.create_new.Goals as goal
@@ -22,5 +21,5 @@ returns-in_err-told-clause-would c =
     let set = logical_before c.args.held.now in
     on-err c.from_residual.result
     (would-make (create_check (asked_attributes (mode_of c.args.mode.now)) set) (naming_in_parent c.args.parent c.args.name.now set)
-    (file_inode (mode_of c.args.mode.now) (credential_of c.args.credential) (moment_of c.args.parent.moment))
+    (file_inode (mode_of c.args.mode.now) (maker_in_parent c.args.caller.now c.args.parent) (moment_of c.args.parent.moment))
     (ap (λ (a : SetAttributes). create_check a set) (sym c.asked_attributes.ensures) ∙ sym c.in_default.ensures))
