@@ -18,9 +18,9 @@ use Rattle.nfs_model.specs.volume.Inodes.{InodeKind, RegularFile, DirectoryKind,
 use Rattle.filer_state.specs.state.Contents.{VolumeContents}
 use Rattle.filer_state.specs.state.Tree.{node_by, node_of, volume_of}
 use Rattle.filer_state.specs.state.Partition.{parts_of}
-use Rattle.filer_state.specs.state.Calls.{VolumeCall, located_on, move_on}
+use Rattle.filer_state.specs.state.Calls.{VolumeCall, unasked, located_on, move_on}
 use Rattle.filer_state.specs.attributes.lemmas.Getting.{node-at}
-use Rattle.filer_state.specs.bytes.WritingLaws.{write_call}
+use Rattle.filer_state.specs.bytes.WritingLaws.{plain, write_call}
 use Rattle.filer_state.specs.bytes.WritingUp.{file_due, kind_due, bytes_due}
 use Rattle.filer_state.specs.bytes.lemmas.WrittenNodes.{file_before}
 
@@ -34,6 +34,7 @@ abbrev pub ready_of : VolumeContents → ℕ → Writing → FileNode → Ready
 ready_of p f w file = record {
   need = need file w.offset (length (bytes_kept w));
   extends = nat_lt (length file.bytes) (w.offset + length (bytes_kept w));
+  clears = false;
   fits = is_none (space_fault (volume_of p) file w.offset (length (bytes_kept w)));
 }
 
@@ -67,11 +68,11 @@ module _ (p : VolumeContents) (f : ℕ) (handle : List ℕ) (w : Writing) (node 
   -- ---- by the node
 
   abbrev moves : Option Node → Option Affinity
-  moves x = move_if (Some (parts_of p)) node (ready (Some (located_on call p)) x w.offset w.count (length w.written))
+  moves x = move_if (Some (parts_of p)) node (ready (Some (located_on call p)) x unasked w.offset w.count (length w.written))
 
   abbrev effect : Option Node → Effect
   effect x = on_file x (λ g. if not (w.count == length w.written) then Fails Invalid
-      else if w.count == 0 then Tells (WriteDone 0 seen.verifier) else write_some seen f g w)
+      else if w.count == 0 then Tells (WriteDone 0 seen.verifier) else write_some seen f g (plain w))
 
   no-file : (x : Option Node) (status : Status) → get seen.nodes f ≡ x → moves x ≡ None → effect x ≡ Fails status → Checked (Err status)
   no-file x status is stays run = (ap moves is ∙ stays, ap effect is ∙ run)
@@ -100,10 +101,10 @@ module _ (p : VolumeContents) (f : ℕ) (handle : List ℕ) (w : Writing) (node 
     -- ---- by the checks
 
     abbrev ran : Bool → Bool → Effect
-    ran b t = if not b then Fails Invalid else if t then Tells (WriteDone 0 seen.verifier) else write_some seen f file w
+    ran b t = if not b then Fails Invalid else if t then Tells (WriteDone 0 seen.verifier) else write_some seen f file (plain w)
 
     abbrev went : Bool → Bool → ℕ → Option Affinity
-    went b t k = move_if (Some (parts_of p)) node (if not b then None else if t then None else ready_bytes seen file w.offset k)
+    went b t k = move_if (Some (parts_of p)) node (if not b then None else if t then None else ready_bytes seen unasked file w.offset k)
 
     abbrev told_if : Bool → Effect
     told_if b = unless (if b then Some TooBig else None) (unless (space_fault seen file w.offset n) (change_of p f w file))

@@ -6,7 +6,7 @@ use Rattle.std.proofs.lemmas.List.FromFn.{length-map-range_with_len}
 use Rattle.std.specs.List.{list_all}
 use Rattle.std.specs.FinMap.{get}
 use Rattle.std.specs.FinSet.{contains}
-use Rattle.nfs_model.specs.Types.{Moment}
+use Rattle.nfs_model.specs.Types.{Moment, Ownership}
 use Rattle.nfs_model.specs.Server.{FileNode, block_size, used}
 use Rattle.nfs_model.specs.Parts.{Hand}
 use Rattle.nfs_model.specs.Serial.Write.{blocks_met, need}
@@ -65,9 +65,9 @@ module _ (p : VolumeContents) (i f offset n size : ℕ) (inode : Inode) (verifie
       (λ b some from below. filled-here p.stripes i f offset n lies small b some from below))
 
   -- it extends or fills exactly when it doesn't stay within
-  pub moves-or-stays : (touch : Option Moment) → get s.cards f ≡ Some (OfFile size touch)
+  pub moves-or-stays : (touch : Option Moment) (owner : Ownership) → get s.cards f ≡ Some (OfFile size touch owner)
       → (nat_lt (length file.bytes) (offset + n) || nat_lt 0 (need file offset n)) ≡ not (stays_within f offset n s)
-  moves-or-stays touch card =
+  moves-or-stays touch owner card =
       let long : length file.bytes ≡ size = length-map-range_with_len (file_byte p.stripes f) 0 size in
       ap (λ (k : ℕ). nat_lt k (offset + n) || nat_lt 0 (need file offset n)) long
       ∙ (λ j. past-not size (offset + n) j || needs j)
