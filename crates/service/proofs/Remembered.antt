@@ -89,14 +89,14 @@ not-moved (types.Write handle offset count written) c p e = absurd cc
 not-moved call c p e = refl
 
 -- where a call moves doesn't go by what it does
-alike-moved : (call asked : types.Call) (caller : Caller) (node : Affinity) (fileid : ℕ) (f g : VolumeState → Effect) (p : VolumeContents)
+pub alike-moved : (call asked : types.Call) (caller : Caller) (node : Affinity) (fileid : ℕ) (f g : VolumeState → Effect) (p : VolumeContents)
     → move_of_located call (record { call = asked; caller = caller; node = node; fileid = fileid; run = f }) p
     ≡ move_of_located call (record { call = asked; caller = caller; node = node; fileid = fileid; run = g }) p
 alike-moved (types.Write handle offset count written) asked caller node fileid f g p = refl
 alike-moved call asked caller node fileid f g p = refl
 
 -- where such a call leaves all as it is, no block moves
-says-nothing : (call : types.Call) (node : Affinity) (s : Stored) → is_done_once call ≡ true → PartsChange call node s s
+pub says-nothing : (call : types.Call) (node : Affinity) (s : Stored) → is_done_once call ≡ true → PartsChange call node s s
 says-nothing (types.Setattr handle set guard) node s e = emptied-none s.parts s.parts (emptied_by s s) (omega arith) refl refl refl refl
 says-nothing (types.Create directory name mode) node s e = emptied-none s.parts s.parts (emptied_by s s) (omega arith) refl refl refl refl
 says-nothing (types.Remove directory name) node s e = emptied-none s.parts s.parts (emptied_by s s) (omega arith) refl refl refl refl

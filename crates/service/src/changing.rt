@@ -90,7 +90,7 @@ pub(crate) fn write_here(
 {
     let Named { volume, fileid } = named;
     let written = bytes.as_slice();
-    let told = write_in_logical(held, fileid, offset, count, written, run.caller, run.moment);
+    let told = write_in_logical(held, fileid, offset, count, written, run.moment);
     outcome_written(volume, told)
 }
 

@@ -23,12 +23,12 @@ use nfs_values::answer::{ReadDirectoryPlusResults, ReadDirectoryResults};
 use nfs_values::{Answer, FileHandle, Name, Named, Reply, Status, Target};
 use parcels::LogicalHeld;
 use service_data::read_in_logical;
-use service_names::committing::commit;
+use service_names::committing::{commit, committing_refusal};
 use service_names::listing::{PageAsked, read_directory};
 use service_names::listing_plus::{PagePlusAsked, read_directory_plus};
 use service_names::looking::lookup;
 use service_names::mounting_below::mount_below;
-use service_names::refusing::{committing_refusal, listing_refusal, lookup_refusal};
+use service_names::refusing::{listing_refusal, lookup_refusal};
 use service_names::telling::{check_access, filesystem_info, path_configuration};
 use std::alloc::AllocError;
 
@@ -107,7 +107,7 @@ pub(crate) fn read_here(
         (moment_of run.entry.moment) (call_of (calls.Read handle.now offset count)))
         (logical_before held.now) (outcome_of result) (logical_before held.now) }
 {
-    let told = read_in_logical(run.alloc, held, named.fileid, offset, count, run.caller);
+    let told = read_in_logical(run.alloc, held, named.fileid, offset, count);
     outcome_read(told)
 }
 
