@@ -1,13 +1,13 @@
--- Which calls on names and attributes are refused by the owner, the groups and the mode of objects, by what is under Logical (RFC 1813
+-- Which calls are refused by the owner, the groups and the mode of objects, by what is under Logical (RFC 1813
 -- section 2.5).
 use Rattle.std.specs.Prelude.{ℕ, Bool, ◌||◌, ◌==◌, List, Option, Some, None, is_none, if◌then◌else◌}
 use Rattle.std.specs.Option.{option_map}
 use Rattle.std.specs.FinMap.{get}
 use Rattle.nfs_model.specs.Types as types
 use Rattle.nfs_model.specs.Types.{Credential, Caller, Status, CreateMode, Unchecked, Kind, Regular}
-use Rattle.nfs_model.specs.Types.{Call, Setattr, Lookup, Create, Mkdir, Remove, Rmdir, Rename, Readdir, Readdirplus}
-use Rattle.nfs_model.specs.Serial.Rights.{Protection, may_write, may_search, may_list, may_change, may_drop, rights_of}
-use Rattle.nfs_model.specs.Serial.Permission.{needs, then_asks, set_refusal, is_no_child, is_one_entry, is_change, refusal_of}
+use Rattle.nfs_model.specs.Types.{Call, Setattr, Lookup, Read, Write, Create, Mkdir, Remove, Rmdir, Rename, Readdir, Readdirplus, Commit}
+use Rattle.nfs_model.specs.Serial.Rights.{Protection, may_read, may_write, may_search, may_list, may_change, may_drop, rights_of}
+use Rattle.nfs_model.specs.Serial.Permission.{needs, then_asks, set_refusal, is_no_child, is_one_entry, is_change, write_rights, refusal_of}
 use Rattle.nfs_model.specs.volume.Directories.{fileid_found}
 use Rattle.nfs_model.specs.volume.Inodes.{InodeKind, RegularFile, DirectoryKind, Inode}
 use Rattle.filer_state.specs.state.Protected.{protection_of}
@@ -29,6 +29,15 @@ if_directory (DirectoryKind parent subdirectories) asked = asked
 abbrev pub of_directory_inode : Option Inode → (Protection → Option Status) → Option Status
 of_directory_inode None ask = None
 of_directory_inode (Some inode) ask = if_directory inode.kind (ask (protection_of inode))
+
+-- a file: nothing is asked of a directory
+abbrev pub if_file : InodeKind → Option Status → Option Status
+if_file (RegularFile size filled verifier) asked = asked
+if_file (DirectoryKind parent subdirectories) asked = None
+
+abbrev pub of_file_inode : Option Inode → (Protection → Option Status) → Option Status
+of_file_inode None ask = None
+of_file_inode (Some inode) ask = if_file inode.kind (ask (protection_of inode))
 
 -- what a fileid's node is protected by, if it is there
 abbrev pub protection_at : LogicalSet → Option ℕ → Option Protection
@@ -95,11 +104,13 @@ of_held_names who from_name to_name s from to =
 
 -- ---- calls
 
--- a call on a fileid and, of a RENAME, on another, by its procedure; READ, WRITE and COMMIT aren't among these
+-- a call on a fileid and, of a RENAME, on another, by its procedure
 abbrev pub asked_of : Credential → Call → LogicalSet → ℕ → ℕ → Option Status
 asked_of who (Setattr handle set guard) s fileid other = of_inode (get s.own.inodes.inodes fileid) (set_refusal who set)
 asked_of who (Lookup directory name) s fileid other =
     of_directory_inode (get s.own.inodes.inodes fileid) (λ directory. needs (may_search who directory))
+asked_of who (Read handle offset count) s fileid other = of_file_inode (get s.own.inodes.inodes fileid) (λ file. needs (may_read who file))
+asked_of who (Write handle offset count written) s fileid other = of_file_inode (get s.own.inodes.inodes fileid) (write_rights who)
 asked_of who (Create directory name mode) s fileid other = of_held_name who name s fileid (create_asked who mode)
 asked_of who (Mkdir directory name set) s fileid other = of_held_name who name s fileid (new_asked who)
 asked_of who (Remove directory name) s fileid other = of_held_name who name s fileid (gone_asked who)
@@ -109,6 +120,8 @@ asked_of who (Readdir directory cookie verifier count) s fileid other =
     of_directory_inode (get s.own.inodes.inodes fileid) (λ directory. needs (may_list who directory))
 asked_of who (Readdirplus directory cookie verifier names_count count) s fileid other =
     of_directory_inode (get s.own.inodes.inodes fileid) (λ directory. needs (may_list who directory))
+asked_of who (Commit handle) s fileid other =
+    of_file_inode (get s.own.inodes.inodes fileid) (λ file. needs (may_read who file || may_write who file))
 asked_of who call s fileid other = None
 
 -- what a caller is refused

@@ -20,7 +20,7 @@ use Rattle.filer_state.specs.state.Tree.{ranges_used}
 use Rattle.affinity.specs.Fault.{fault_of, is_sized}
 use Rattle.affinity.specs.Largest.{mebibyte, largest_of, mebibytes_in, inodes_in, inodes_of, steps_in, steps_of, begun_in, begun_of, root_in, root_of, remembered_in, remembered_of}
 use Rattle.affinity.specs.lemmas.Lawful.{keeps_rules, stripes_either, mebibytes_between, inodes_between, range_blocks_size}
-use Rattle.nfs_model.specs.Types.{Listed, Moment}
+use Rattle.nfs_model.specs.Types.{Listed, Moment, Ownership}
 use Rattle.nfs_model.specs.Tree as trees
 use Rattle.nfs_model.specs.Tree.{Layout, VolumeLayout, stripes_of, aggregate_of, aggregate_in, range_blocks_of, range_blocks_in}
 use Rattle.nfs_model.specs.Server.{VolumeState, root_node, opening_volume, opening_volumes, opening}

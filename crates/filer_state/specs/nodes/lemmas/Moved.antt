@@ -184,10 +184,10 @@ owner-effective : (touch : Option Moment) (a : Attributes) → ownership_of (eff
 owner-effective None a = refl
 owner-effective (Some moment) a = refl
 
-owner-with : (parent : ℕ) (touch : Option Moment) (a : Attributes) (k : InodeKind) {moment : Moment}
+owner-with : (parent : ℕ) (touch : Option Moment) (moment : Moment) (a : Attributes) (k : InodeKind)
     → owner_by (record (attributes_now touch a k) { ctime = moment }) (with_parent parent k) ≡ owner_by a k
-owner-with parent touch a (RegularFile size filled verifier) = ap Some (owner-effective touch a)
-owner-with parent touch a (DirectoryKind old subdirectories) = refl
+owner-with parent touch moment a (RegularFile size filled verifier) = ap Some (owner-effective touch a)
+owner-with parent touch moment a (DirectoryKind old subdirectories) = refl
 
 owner-more : (more : ℕ) (a b : Attributes) → ownership_of b ≡ ownership_of a → (k : InodeKind)
     → owner_by b (with_subdirectories more k) ≡ owner_by a k
@@ -220,10 +220,13 @@ module _ (p : VolumeContents) (from to : Naming) (well : WellFormed p)
   abbrev taken : InodesValue
   taken = inodes_untied from p.logical.inodes
 
+  abbrev untied : Inode
+  untied = dated_inode from.moment (without_subdirectories (directories_in from.node.kind) from.inode.kind) from.inode
+
   same-taken : SameFiles taken p.logical.inodes
-  same-taken = same-set p.logical.inodes from.directory from.inode _ well.logical.inodes stands.there
+  same-taken = same-set p.logical.inodes from.directory from.inode untied well.logical.inodes stands.there
       (unnamed.size-kept (directories_in from.node.kind) from.inode.kind)
-      (owner-less (directories_in from.node.kind) from.inode.attributes _ refl from.inode.kind) (filled-less (directories_in from.node.kind) from.inode.kind)
+      (owner-less (directories_in from.node.kind) from.inode.attributes untied.attributes refl from.inode.kind) (filled-less (directories_in from.node.kind) from.inode.kind)
 
   abbrev dated : Inode
   dated = dated_inode to.moment (with_subdirectories (directories_in to.node.kind) to.inode.kind) to.inode
@@ -237,7 +240,7 @@ module _ (p : VolumeContents) (from to : Naming) (well : WellFormed p)
   same-hung = same-set (inode_set to.directory dated taken) to.fileid to.node (node_hung to touch)
       (same-dated.lawful (same-taken.lawful well.logical.inodes))
       (still taken (entries_untied from p.logical.directories) to touch may) (size-with to.directory to.node.kind)
-      (owner-with to.directory touch to.node.attributes to.node.kind) (filled-with to.directory to.node.kind)
+      (owner-with to.directory touch to.moment to.node.attributes to.node.kind) (filled-with to.directory to.node.kind)
 
   same-all : SameFiles (inodes_hung to touch taken) p.logical.inodes
   same-all = same-then p.logical.inodes taken (inodes_hung to touch taken)
