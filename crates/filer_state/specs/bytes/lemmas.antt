@@ -38,3 +38,5 @@ pub mod FreeCount
 pub mod FilledParts
 pub mod VolumeWrites
 pub mod VolumeStarves
+pub mod Callers
+pub mod ReadsBy

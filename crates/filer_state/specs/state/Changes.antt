@@ -70,6 +70,29 @@ node_set fileid inode set = record {
   stripes = stripes_settled fileid (ownership_of inode.attributes) set.stripes;
 }
 
+-- a file's cards have an owner, in all stripes; their touches stay
+abbrev pub stripes_owned : ℕ → Ownership → List StripeValue → List StripeValue
+stripes_owned fileid owner stripes = map (file_card_owned fileid owner) stripes
+
+-- an inode set, with its owner on the cards
+abbrev pub node_owned : ℕ → Inode → LogicalSet → LogicalSet
+node_owned fileid inode set = record {
+  own = record set.own { inodes = inode_set fileid inode set.own.inodes };
+  stripes = stripes_owned fileid (ownership_of inode.attributes) set.stripes;
+}
+
+-- an inode with another mode; its times stay
+abbrev pub with_mode : ℕ → Inode → Inode
+with_mode mode inode = record inode { attributes = record inode.attributes { mode = mode } }
+
+-- another mode of a node, if it is there
+abbrev pub mode_put_on : Option Inode → ℕ → ℕ → LogicalSet → LogicalSet
+mode_put_on None fileid mode set = set
+mode_put_on (Some inode) fileid mode set = node_owned fileid (with_mode mode inode) set
+
+abbrev pub mode_put : ℕ → ℕ → LogicalSet → LogicalSet
+mode_put fileid mode set = mode_put_on (get set.own.inodes.inodes fileid) fileid mode set
+
 -- what GETATTR answers by them (RFC 1813 section 3.3.1)
 abbrev pub getattr_answer : ℕ → ℕ → Option Inode → Option Moment → Answer
 getattr_answer volume fileid None touch = Failed Stale 0

@@ -101,11 +101,3 @@ module _ (f : ℕ) (owner : Ownership) where
 
   pub shown-stays : (s : StripeValue) (q : ℕ) → option_map size_shown (get (stripe_settled f owner s).cards q) ≡ option_map size_shown (get s.cards q)
   shown-stays s q = size-alike (touch_taken f s) q ∙ kept.shown-stays f s q
-
-  pub stripe-settled : (stripes : List StripeValue) (i : ℕ) → i < length stripes
-      → stripe_at (stripes_settled f owner stripes) i ≡ stripe_settled f owner (stripe_at stripes i)
-  stripe-settled stripes i less = blocks.stripe-mapped (stripe_settled f owner) stripes i less
-
-  pub total-settled : (g : StripeValue → ℕ) → ((s : StripeValue) → g (stripe_settled f owner s) ≡ g s) → (stripes : List StripeValue)
-      → total g (stripes_settled f owner stripes) ≡ total g stripes
-  total-settled g same stripes = blocks.total-mapped (stripe_settled f owner) g same stripes
