@@ -40,3 +40,6 @@ pub mod VolumeWrites
 pub mod VolumeStarves
 pub mod Callers
 pub mod ReadsBy
+pub mod WritesBy
+pub mod Ended
+pub mod Clears

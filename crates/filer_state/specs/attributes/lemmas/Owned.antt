@@ -30,23 +30,23 @@ cards_owned f owner cards = changed_at (card_owned owner) f cards
 
 -- an inode's owner is on its card then
 module _ (p : VolumeContents) (f : ℕ) (old inode : Inode) (there : get p.logical.inodes.inodes f ≡ Some old) (same : inode.kind ≡ old.kind) where
-  abbrev owner : Ownership
-  owner = ownership_of inode.attributes
+  abbrev own : Ownership
+  own = ownership_of inode.attributes
 
-  pub owners-after : (s : StripeValue) → OwnersFit p.logical.inodes s → OwnersFit (inode_set f inode p.logical.inodes) (with_cards (cards_owned f owner) s)
+  pub owners-after : (s : StripeValue) → OwnersFit p.logical.inodes s → OwnersFit (inode_set f inode p.logical.inodes) (with_cards (cards_owned f own) s)
   owners-after s fits q = by (q == f) refl
     where
       changed : StripeValue
-      changed = with_cards (cards_owned f owner) s
+      changed = with_cards (cards_owned f own) s
 
       was : option_map owner_shown (get s.cards f) ≡ Some (owner_by old.attributes old.kind)
       was = fits f ∙ ap (option_map owner_in) there
 
       here : (k : InodeKind) → old.kind ≡ k → option_map owner_shown (get changed.cards f) ≡ Some (owner_by inode.attributes k)
       here (RegularFile size filled verifier) is =
-          owner-here f owner s (ownership_of old.attributes) (was ∙ ap (λ (k : InodeKind). Some (owner_by old.attributes k)) is)
+          owner-here f own s (ownership_of old.attributes) (was ∙ ap (λ (k : InodeKind). Some (owner_by old.attributes k)) is)
       here (DirectoryKind parent subdirectories) is =
-          owner-none f owner s (was ∙ ap (λ (k : InodeKind). Some (owner_by old.attributes k)) is)
+          owner-none f own s (was ∙ ap (λ (k : InodeKind). Some (owner_by old.attributes k)) is)
 
       by : (b : Bool) → (q == f) ≡ b
           → option_map owner_shown (get changed.cards q) ≡ option_map owner_in (get (inode_set f inode p.logical.inodes).inodes q)
@@ -56,7 +56,7 @@ module _ (p : VolumeContents) (f : ℕ) (old inode : Inode) (there : get p.logic
           ∙ sym (ap (option_map owner_in) (inode-set-there p.logical.inodes f old inode there))
           ∙ ap (λ (k : ℕ). option_map owner_in (get (inode_set f inode p.logical.inodes).inodes k)) (sym (eqb-true q f e))
       by false e =
-          owner-other f owner s q e ∙ fits q ∙ sym (ap (option_map owner_in) (inode-set-other p.logical.inodes f inode q e))
+          owner-other f own s q e ∙ fits q ∙ sym (ap (option_map owner_in) (inode-set-other p.logical.inodes f inode q e))
 
 -- touches stay
 touch-same : (f : ℕ) (owner : Ownership) (stripes : List StripeValue) (q : ℕ) → file_touch (stripes_owned f owner stripes) q ≡ file_touch stripes q
