@@ -1,6 +1,6 @@
 -- What READ, WRITE and COMMIT of callers that are checked come to, on what is held: refused, they change nothing; else they do what they
 -- do where nothing is asked, but for the set-id bits of what is written.
-use Rattle.std.specs.Prelude.{◌≡◌, ◌≢◌, ℕ, ◌<◌, true, false, List, Option, Some, None}
+use Rattle.std.specs.Prelude.{◌≡◌, ◌≢◌, ℕ, ◌<◌, true, false, List, Some, None}
 use Rattle.std.specs.FinMap.{get}
 use Rattle.nfs_model.specs.Types.{Caller, Status, Failed, Success}
 use Rattle.nfs_model.specs.Tree.{Affinity, Volume, Logical, Stripe}

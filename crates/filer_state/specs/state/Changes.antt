@@ -1,16 +1,15 @@
 -- What calls show and change of what is under Logical, beyond the words of each value (RFC 1813 section 2.6).
-use Rattle.std.specs.Prelude.{ℕ, ◌+◌, ◌*◌, List, map, Option, Some, None, if◌then◌else◌}
+use Rattle.std.specs.Prelude.{ℕ, ◌+◌, ◌*◌, List, map, Option, Some, None}
 use Rattle.std.specs.FinMap.{get}
-use Rattle.nfs_model.specs.Types.{Moment, Ownership, SetAttributes, Status, Shown, Regular, DirectoryKind, Answer, GetattrDone}
-use Rattle.nfs_model.specs.Types.{SetattrDone, Failed, Stale, NotSynchronous, Invalid}
+use Rattle.nfs_model.specs.Types.{Moment, Ownership, SetAttributes, Shown, Regular, DirectoryKind, Answer, GetattrDone}
+use Rattle.nfs_model.specs.Types.{Failed, Stale}
 use Rattle.nfs_model.specs.Server.{Attributes, block_size}
-use Rattle.nfs_model.specs.Shown.{effective_attributes, before_of, directory_size}
+use Rattle.nfs_model.specs.Shown.{effective_attributes, directory_size}
 use Rattle.nfs_model.specs.Serial.Rights.{ownership_of}
 use Rattle.nfs_model.specs.Serial.Setattr.{set_attributes}
 use Rattle.nfs_model.specs.volume.Inodes as inodes
 use Rattle.nfs_model.specs.volume.Inodes.{InodeKind, RegularFile, Inode, inode_set}
 use Rattle.nfs_model.specs.volume.Stripes.{StripeValue, touch_taken, file_card_owned}
-use Rattle.filer_state.specs.state.Tree.{file_touch}
 use Rattle.filer_state.specs.state.Lenses.{LogicalSet}
 
 -- fattr3 of a node by its inode and its latest touch

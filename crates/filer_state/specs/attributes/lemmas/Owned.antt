@@ -1,11 +1,11 @@
 -- An inode set of the same kind, whose cards have its owner and keep their touches: all stays sound, and the volume has the node with the
 -- inode's attributes.
-use Rattle.std.proofs.Common.{◌≡◌, ℕ, ◌==◌, Bool, true, false, List, [], ◌∷◌, Option, Some, None, refl, sym, ap, ◌∙◌}
+use Rattle.std.proofs.Common.{◌≡◌, ℕ, ◌==◌, Bool, true, false, List, [], ◌∷◌, Some, refl, sym, ap, ◌∙◌}
 use Rattle.std.proofs.lemmas.Bool.{eqb-true}
 use Rattle.std.specs.Option.{option_map}
-use Rattle.std.specs.FinMap.{get, insert}
+use Rattle.std.specs.FinMap.{get}
 use Rattle.nfs_model.specs.Types.{Ownership}
-use Rattle.nfs_model.specs.Server.{Attributes, Node, File, Directory, VolumeState}
+use Rattle.nfs_model.specs.Server.{Attributes, Node, File, Directory}
 use Rattle.nfs_model.specs.Serial.Rights.{ownership_of}
 use Rattle.nfs_model.specs.Serial.Setattr.{with_node}
 use Rattle.nfs_model.specs.Parts.{Hand}

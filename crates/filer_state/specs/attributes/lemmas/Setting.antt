@@ -1,7 +1,6 @@
 -- A node that settles and has an inode set of the same kind: all stays sound, and the volume has the node with the inode's
 -- attributes.
-use Rattle.std.proofs.Common.{◌≡◌, ℕ, ◌+◌, ◌==◌, false, List, map, Some, refl, sym, ap, ◌∙◌}
-use Rattle.std.specs.Option.{option_map}
+use Rattle.std.proofs.Common.{◌≡◌, ℕ, ◌+◌, List, Some, refl, ◌∙◌}
 use Rattle.std.specs.FinMap.{get, insert}
 use Rattle.nfs_model.specs.Types.{Ownership}
 use Rattle.nfs_model.specs.Server.{Attributes, Node, File, Directory}

@@ -1,16 +1,16 @@
 -- WRITE of callers that are checked, by a stripe, by what is under Logical, and by what is under Volume.
-use Rattle.std.proofs.Common.{◌≡◌, ◌≢◌, ℕ, zero, suc, ◌+◌, ◌-◌, ◌<◌, ◌&&◌, ◌||◌, not, ◌==◌, Bool, true, false, List, length, Option, Some, None, nat_lt}
+use Rattle.std.proofs.Common.{◌≡◌, ◌≢◌, ℕ, zero, suc, ◌+◌, ◌-◌, ◌<◌, ◌&&◌, ◌||◌, not, Bool, true, false, List, length, Option, Some, None, nat_lt}
 use Rattle.std.proofs.Common.{refl, sym, ap, ◌∙◌, subst, arith, ne_eqb}
 use Rattle.std.specs.Prelude.{if◌then◌else◌, IsTrue, Result, Ok, Err}
 use Rattle.std.specs.FinMap.{get}
 use Rattle.nfs_model.specs.Types.{Answer, Status, NoSpace, Write, WriteDone, Failed, Success, Reply, Ownership}
 use Rattle.nfs_model.specs.Tree.{Affinity, Volume, Logical, Stripe}
-use Rattle.nfs_model.specs.Server.{FileNode, Node, File, VolumeState, used}
+use Rattle.nfs_model.specs.Server.{FileNode, Node, VolumeState, used}
 use Rattle.nfs_model.specs.Locate.{Effect, Fails, Tells, unless}
 use Rattle.nfs_model.specs.Parts.{Hand, Parts}
 use Rattle.nfs_model.specs.Moves.{Filled, PartsChange}
 use Rattle.nfs_model.specs.Serial.Starve.{takes_memory}
-use Rattle.nfs_model.specs.Serial.Write.{Writing, bytes_kept, need, space_fault, write}
+use Rattle.nfs_model.specs.Serial.Write.{Writing, bytes_kept, space_fault, write}
 use Rattle.nfs_model.specs.Work.{Outcome, Replied, Starved, Moved, Ready, move_if}
 use Rattle.depot_rule.specs.Sums.{total}
 use Rattle.nfs_model.specs.volume.Stripes.{StripeValue}
@@ -27,7 +27,7 @@ use Rattle.filer_state.specs.bytes.WritingLaws.{plain, write_call}
 use Rattle.filer_state.specs.bytes.WritingUp.{bytes_due}
 use Rattle.filer_state.specs.bytes.Permitted.{owner_on, owner_at, owner_held, write_refused, clears_owned, replies_bytes, tells_bytes, has_written}
 use Rattle.filer_state.specs.bytes.Permitted.{set_ids_ended, logical_cleared, volume_cleared, moves_instead, write_by}
-use Rattle.filer_state.specs.bytes.lemmas.Callers.{works-alike, runs-alike, runs-refused}
+use Rattle.filer_state.specs.bytes.lemmas.Callers.{runs-alike, runs-refused}
 use Rattle.filer_state.specs.bytes.lemmas.Reads.{stripe-back}
 use Rattle.filer_state.specs.bytes.lemmas.ReadsBy.{stripe-owner, logical-owner}
 use Rattle.filer_state.specs.bytes.lemmas.Checks.{SomeBytes, Checked, checked, change_of, ready_on, ready_of}

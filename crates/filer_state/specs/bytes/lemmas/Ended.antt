@@ -1,8 +1,8 @@
 -- Bytes that were written under Logical or under Volume, and then a mode without set-id bits.
-use Rattle.std.proofs.Common.{◌≡◌, ℕ, ◌==◌, Bool, true, List, [], ◌∷◌, ◌++◌, length, Option, Some, None, refl, sym, ap, ◌∙◌, subst}
+use Rattle.std.proofs.Common.{◌≡◌, ℕ, Bool, true, List, [], ◌∷◌, ◌++◌, Option, Some, None, refl, sym, ap, ◌∙◌, subst}
 use Rattle.std.specs.Prelude.{if◌then◌else◌}
 use Rattle.std.specs.Option.{option_map}
-use Rattle.std.specs.FinMap.{get, insert}
+use Rattle.std.specs.FinMap.{get}
 use Rattle.std.specs.FinSet.{from_list}
 use Rattle.nfs_model.specs.Types.{Ownership}
 use Rattle.nfs_model.specs.Tree.{Affinity}
@@ -20,7 +20,7 @@ use Rattle.filer_state.specs.state.Tree.{node_by, node_of, volume_of}
 use Rattle.filer_state.specs.state.WellFormed.{owner_by}
 use Rattle.filer_state.specs.state.Partition.{numbers_in, all_numbers, parts_of}
 use Rattle.filer_state.specs.state.Sound.{IsSound}
-use Rattle.filer_state.specs.state.Lenses.{LogicalSet, logical_lens}
+use Rattle.filer_state.specs.state.Lenses.{logical_lens}
 use Rattle.filer_state.specs.state.Changes.{stripes_owned, with_mode, mode_put_on}
 use Rattle.filer_state.specs.laws.lemmas.Counted.{used-is}
 use Rattle.filer_state.specs.attributes.lemmas.Getting.{node-at}

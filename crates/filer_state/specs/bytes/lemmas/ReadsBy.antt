@@ -1,10 +1,9 @@
 -- READ and COMMIT of callers that are checked.
 use Rattle.std.proofs.Common.{◌≡◌, ℕ, ◌<◌, ◌||◌, false, List, Option, Some, None, refl, sym, ap, ◌∙◌, subst}
 use Rattle.std.specs.FinMap.{get}
-use Rattle.nfs_model.specs.Types.{Call, Read, Commit, Caller, Ownership, Status, Failed, Success}
+use Rattle.nfs_model.specs.Types.{Read, Commit, Caller, Ownership, Status, Failed, Success}
 use Rattle.nfs_model.specs.Tree.{Affinity}
-use Rattle.nfs_model.specs.Server.{VolumeState}
-use Rattle.nfs_model.specs.Locate.{Effect, unless}
+use Rattle.nfs_model.specs.Locate.{unless}
 use Rattle.nfs_model.specs.Serial.Rights.{Protection, may_read, may_write}
 use Rattle.nfs_model.specs.Serial.Permission.{needs, of_file, refusal_of}
 use Rattle.nfs_model.specs.Serial.Read.{read}

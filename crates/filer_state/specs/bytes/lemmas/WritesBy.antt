@@ -1,8 +1,8 @@
 -- WRITE of callers that are checked: how it differs from one of whom nothing is asked.
-use Rattle.std.proofs.Common.{◌≡◌, ℕ, ◌+◌, ◌==◌, ◌||◌, not, Bool, true, false, List, length, min, Option, Some, None, refl, sym, ap, ◌∙◌, nat_lt}
+use Rattle.std.proofs.Common.{◌≡◌, ℕ, ◌+◌, ◌==◌, ◌||◌, not, Bool, true, false, List, length, min, Option, Some, None, refl, ap, ◌∙◌, nat_lt}
 use Rattle.std.specs.Prelude.{if◌then◌else◌, is_some, is_none}
 use Rattle.std.specs.FinMap.{get}
-use Rattle.nfs_model.specs.Types.{Status, Invalid, Answer, WriteDone}
+use Rattle.nfs_model.specs.Types.{Status, Invalid, WriteDone}
 use Rattle.nfs_model.specs.Tree.{Affinity, Logical, Volume, Stripe}
 use Rattle.nfs_model.specs.Server.{FileNode, Node, File, Directory, VolumeState, most_bytes}
 use Rattle.nfs_model.specs.Locate.{Effect, Fails, Tells, Changes, unless, on_file}
