@@ -179,11 +179,12 @@ module _ (fileid : ℕ) (w : Writing) (old now : StripeValue) (held : now ≡ ol
 
       -- this many, where all is there or not
       abbrev come_if : ℕ → Bool → StripeOutcome
-      come_if v stays = if stays then record {
-        outcome = Replied (Success (WriteDone given now.verifier));
-        stripe = overwritten fileid w.offset (bytes_kept w) w.moment now;
-      }
-      else record { outcome = Moved (Logical v); stripe = now }
+      come_if v stays =
+          if stays then record {
+            outcome = Replied (Success (WriteDone given now.verifier));
+            stripe = overwritten fileid w.offset (bytes_kept w) w.moment now;
+          }
+          else record { outcome = Moved (Logical v); stripe = now }
 
       -- where the mode changes it moves
       pub right-cleared : true ≡ clears_owned w.caller owner → WritesInStripe fileid w old None now

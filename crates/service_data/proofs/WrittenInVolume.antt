@@ -13,7 +13,7 @@ use Rattle.nfs_values.specs.declared.status.Status.{Status}
 use Rattle.nfs_model.specs.volume.Stripes.{Card}
 use Rattle.filer_state.specs.state.Lenses.{VolumeSet, volume_lens}
 use Rattle.filer_state.specs.state.Running.{RunsOn}
-use Rattle.filer_state.specs.bytes.WritingLaws.{write_call}
+use Rattle.filer_state.specs.bytes.WritingLaws.{plain, write_call}
 use Rattle.filer_state.specs.bytes.WritingUpLaws.{VolumeWriteIsRight, VolumeWriteMayStarve}
 use Rattle.filer_state.specs.bytes.Permitted.{owner_held, write_refused, clears_owned, write_by}
 use Rattle.filer_state.specs.bytes.PermittedLaws.{VolumeWriteIsPermitted, VolumeWriteIsRefused}
@@ -134,7 +134,7 @@ module _ (fileid : ℕ) (w : Writing) (old : VolumeSet) (owner : Option Ownershi
       law v fileid handle w (status_of refusal) old (ap (write_refused w.caller) (sym owns) ∙ sym refuses)
 
   pub right-told : VolumeWriteIsRight → VolumeWriteMayStarve → VolumeWriteIsPermitted → None ≡ write_refused w.caller owner
-      → (mid new : VolumeSet) (result : Result (Option (Result WriteResults Status)) AllocError) → DoneInVolume fileid w old result mid
+      → (mid new : VolumeSet) (result : Result (Option (Result WriteResults Status)) AllocError) → DoneInVolume fileid (plain w) old result mid
       → new ≡ record mid { logical = set_cleared (clears_owned w.caller owner && tells_written result) owner fileid mid.logical }
       → WritesInVolume fileid w old result new
   right-told right starves law permits mid new result done cleared v handle =
@@ -144,4 +144,4 @@ module _ (fileid : ℕ) (w : Writing) (old : VolumeSet) (owner : Option Ownershi
       })
       ∙ sym cleared)
       (law v fileid handle w old (written_outcome v result) mid (ap (write_refused w.caller) (sym owns) ∙ sym permits)
-      (plainly right starves fileid w old mid result done v handle))
+      (plainly right starves fileid (plain w) old mid result done v handle))

@@ -25,7 +25,7 @@ use Rattle.filer_state.specs.state.Running.{RunsOn}
 use Rattle.filer_state.specs.state.Tree.{ranges_used}
 use Rattle.filer_state.specs.state.WellFormed.{owner_by}
 use Rattle.filer_state.specs.laws.lemmas.Limits.{used-fits, ranges-fit}
-use Rattle.filer_state.specs.bytes.WritingLaws.{write_call}
+use Rattle.filer_state.specs.bytes.WritingLaws.{plain, write_call}
 use Rattle.filer_state.specs.bytes.WritingUpLaws.{LogicalWriteIsRight, LogicalWriteMayStarve}
 use Rattle.filer_state.specs.bytes.Permitted.{owner_on, owner_at, owner_held, write_refused, clears_owned, write_by}
 use Rattle.filer_state.specs.bytes.PermittedLaws.{LogicalWriteIsPermitted, LogicalWriteIsRefused}
@@ -217,10 +217,10 @@ module _ (fileid : ℕ) (w : Writing) (old : LogicalSet) (owner : Option Ownersh
       law v fileid handle w (status_of refusal) old (ap (write_refused w.caller) (sym owns) ∙ sym refuses)
 
   pub right-done : LogicalWriteIsRight → LogicalWriteMayStarve → LogicalWriteIsPermitted → None ≡ write_refused w.caller owner
-      → (mid new : LogicalSet) (result : Result (Option (Result WriteResults Status)) AllocError) → DoneInLogical fileid w old result mid
+      → (mid new : LogicalSet) (result : Result (Option (Result WriteResults Status)) AllocError) → DoneInLogical fileid (plain w) old result mid
       → new ≡ set_cleared (clears_owned w.caller owner && tells_written result) owner fileid mid → WritesInLogical fileid w old result new
   right-done right starves law permits mid new result done cleared v handle =
       subst (RunsOn v logical_lens (write_by handle (Logical v) fileid w) old (written_outcome v result))
       ((λ j. set_cleared (clears_owned w.caller (sym owns j) && has-written v result j) (sym owns j) fileid mid) ∙ sym cleared)
       (law v fileid handle w old (written_outcome v result) mid (ap (write_refused w.caller) (sym owns) ∙ sym permits)
-      (plainly right starves fileid w old mid result done v handle))
+      (plainly right starves fileid (plain w) old mid result done v handle))

@@ -68,3 +68,9 @@ returns-in-Err-extend_in_volume-clause-done c =
     told-starved c.args.fileid.0 w old (option_map card_of c.args.card) c.requires.card
     c.get-logical.result.now.largest (ap (λ (l : LogicalValue). l.largest) c.get-logical.ensures) c.in-Ok.given c.in-Ok.ensures c.if-given-eq0.false
     c.in-Err-extend_in_volume.error (volume_after c.args.held.now c.extend_in_volume.new.held) c.in-Err-extend_in_volume.ensures.extended
+
+pub returns-in-Err-clause-stripes : goal.returns-in-Err-clause-stripes
+returns-in-Err-clause-stripes c = stripes-held c.args.held.now.logical (held-below (volume_before c.args.held.now) c.requires.whole)
+
+pub returns-then-given-eq0-clause-stripes : goal.returns-then-given-eq0-clause-stripes
+returns-then-given-eq0-clause-stripes c = stripes-held c.args.held.now.logical (held-below (volume_before c.args.held.now) c.requires.whole)

@@ -8,6 +8,7 @@ use Rattle.nfs_values.specs.Moment.{moment_of}
 use Rattle.nfs_values.specs.Ownership.{ownership_of}
 use Rattle.stripe_cards.specs.Cards.{card_of}
 use Rattle.filer_state.specs.state.Sets.{logical_before, logical_after}
+use Rattle.filer_state.specs.bytes.WritingLaws.{plain}
 use Rattle.service_data.specs.Writing.{asked_to_write, card_shown}
 use Rattle.service_data.proofs.Cleared.{logical-final, moved-kept, starved-kept}
 use Rattle.service_data.proofs.WrittenUp.{owner-held, right-refused, right-done}
@@ -34,7 +35,7 @@ returns-clause-right c =
     c.writing_calls_are_right.ensures.in_logical c.writing_calls_are_right.ensures.in_logical_starves c.writes_are_permitted.ensures.in_logical
     c.in-None.ensures (logical_after c.args.held.now c.done_in_logical-told.new.held) (logical_after c.args.held.now c.clear_set_ids.new.held)
     c.done_in_logical-told.result c.done_in_logical-told.ensures.done
-    (logical-final c.args.held.now c.done_in_logical-told.new.held c.clear_set_ids.new.held c.args.fileid.0 w c.done_in_logical-told.result
+    (logical-final c.args.held.now c.done_in_logical-told.new.held c.clear_set_ids.new.held c.args.fileid.0 (plain w) c.done_in_logical-told.result
     c.done_in_logical-told.ensures.done _ (option_map ownership_of c.owner_on-owner.result) c.clear_set_ids.ensures.set)
 
 pub returns-clause-moved : goal.returns-clause-moved

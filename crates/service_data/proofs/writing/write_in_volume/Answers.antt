@@ -8,6 +8,7 @@ use Rattle.nfs_values.specs.Moment.{moment_of}
 use Rattle.nfs_values.specs.Ownership.{ownership_of}
 use Rattle.stripe_cards.specs.Cards.{card_of}
 use Rattle.filer_state.specs.state.Sets.{volume_before, volume_after}
+use Rattle.filer_state.specs.bytes.WritingLaws.{plain}
 use Rattle.service_data.specs.Writing.{asked_to_write, card_shown}
 use Rattle.service_data.proofs.Cleared.{volume-final, moved-kept, starved-kept}
 use Rattle.service_data.proofs.WrittenUp.{owner-held}
@@ -35,7 +36,7 @@ returns-clause-right c =
     c.writing_calls_are_right.ensures.in_volume c.writing_calls_are_right.ensures.in_volume_starves c.writes_are_permitted.ensures.in_volume
     c.in-None.ensures (volume_after c.args.held.now c.done_in_volume-told.new.held) _
     c.done_in_volume-told.result c.done_in_volume-told.ensures.done
-    (volume-final c.args.held.now c.done_in_volume-told.new.held c.clear_set_ids.new.held c.args.fileid.0 w c.done_in_volume-told.result
+    (volume-final c.args.held.now c.done_in_volume-told.new.held c.clear_set_ids.new.held c.args.fileid.0 (plain w) c.done_in_volume-told.result
     c.done_in_volume-told.ensures.done _ (option_map ownership_of c.owner_on-owner.result) c.clear_set_ids.ensures.set)
 
 pub returns-clause-moved : goal.returns-clause-moved
