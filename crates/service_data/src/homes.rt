@@ -224,8 +224,8 @@ pub(crate) fn own_cards(held: &mut LogicalHeld<Files>, fileid: Fileid, owner: Ow
     ensures { StripesChanged (map (file_card_owned fileid.0 (ownership_of owner)))
         held.old held.new }
 {
-    let stripes = held.own.get().stripes as usize;
-    for place in 0..stripes {
+    let count = held.own.get().stripes as usize;
+    for place in 0..count {
         own_in(&mut held.stripes.at[place], fileid, owner);
     }
 }
