@@ -23,6 +23,7 @@ from owners import (
     look_at_root,
     null,
 )
+from peers import SMALL
 from repeats import NAMES
 from wire import ADMIN, Files
 
@@ -51,7 +52,7 @@ class Way(namedtuple("Way", "command options blocks owner")):
 
 
 SERVE = Way("serve", [], 4096, Owner)
-EXPORT = Way("export", ["--log", "--stats", "1", "--ranges", "16"], 16384, MountedOwner)
+EXPORT = Way("export", ["--log", "--stats", "1", *SMALL], 16384, MountedOwner)
 
 
 class Server:

@@ -50,6 +50,7 @@ stays-sound p memos hands made s =
           stripes = f.stripes;
           largest = f.largest;
           cards = f.cards;
+          owners = f.owners;
           long = f.long;
           blocks = f.blocks;
         };

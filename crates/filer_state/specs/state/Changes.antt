@@ -1,16 +1,15 @@
 -- What calls show and change of what is under Logical, beyond the words of each value (RFC 1813 section 2.6).
-use Rattle.std.specs.Prelude.{ℕ, ◌+◌, ◌*◌, List, map, Option, Some, None, if◌then◌else◌}
+use Rattle.std.specs.Prelude.{ℕ, ◌+◌, ◌*◌, List, map, Option, Some, None}
 use Rattle.std.specs.FinMap.{get}
-use Rattle.nfs_model.specs.Types.{Moment, Ownership, SetAttributes, Status, Shown, Regular, DirectoryKind, Answer, GetattrDone}
-use Rattle.nfs_model.specs.Types.{SetattrDone, Failed, Stale, NotSynchronous, Invalid}
+use Rattle.nfs_model.specs.Types.{Moment, Ownership, SetAttributes, Shown, Regular, DirectoryKind, Answer, GetattrDone}
+use Rattle.nfs_model.specs.Types.{Failed, Stale}
 use Rattle.nfs_model.specs.Server.{Attributes, block_size}
-use Rattle.nfs_model.specs.Shown.{effective_attributes, before_of, directory_size}
+use Rattle.nfs_model.specs.Shown.{effective_attributes, directory_size}
 use Rattle.nfs_model.specs.Serial.Rights.{ownership_of}
 use Rattle.nfs_model.specs.Serial.Setattr.{set_attributes}
 use Rattle.nfs_model.specs.volume.Inodes as inodes
 use Rattle.nfs_model.specs.volume.Inodes.{InodeKind, RegularFile, Inode, inode_set}
 use Rattle.nfs_model.specs.volume.Stripes.{StripeValue, touch_taken, file_card_owned}
-use Rattle.filer_state.specs.state.Tree.{file_touch}
 use Rattle.filer_state.specs.state.Lenses.{LogicalSet}
 
 -- fattr3 of a node by its inode and its latest touch
@@ -69,6 +68,29 @@ node_set fileid inode set = record {
   own = record set.own { inodes = inode_set fileid inode set.own.inodes };
   stripes = stripes_settled fileid (ownership_of inode.attributes) set.stripes;
 }
+
+-- a file's cards have an owner, in all stripes; their touches stay
+abbrev pub stripes_owned : ℕ → Ownership → List StripeValue → List StripeValue
+stripes_owned fileid owner stripes = map (file_card_owned fileid owner) stripes
+
+-- an inode set, with its owner on the cards
+abbrev pub node_owned : ℕ → Inode → LogicalSet → LogicalSet
+node_owned fileid inode set = record {
+  own = record set.own { inodes = inode_set fileid inode set.own.inodes };
+  stripes = stripes_owned fileid (ownership_of inode.attributes) set.stripes;
+}
+
+-- an inode with another mode; its times stay
+abbrev pub with_mode : ℕ → Inode → Inode
+with_mode mode inode = record inode { attributes = record inode.attributes { mode = mode } }
+
+-- another mode of a node, if it is there
+abbrev pub mode_put_on : Option Inode → ℕ → ℕ → LogicalSet → LogicalSet
+mode_put_on None fileid mode set = set
+mode_put_on (Some inode) fileid mode set = node_owned fileid (with_mode mode inode) set
+
+abbrev pub mode_put : ℕ → ℕ → LogicalSet → LogicalSet
+mode_put fileid mode set = mode_put_on (get set.own.inodes.inodes fileid) fileid mode set
 
 -- what GETATTR answers by them (RFC 1813 section 3.3.1)
 abbrev pub getattr_answer : ℕ → ℕ → Option Inode → Option Moment → Answer

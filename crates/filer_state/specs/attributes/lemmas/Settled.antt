@@ -1,15 +1,14 @@
 -- What stays where a file's touches are taken and its cards have another owner.
-use Rattle.std.proofs.Common.{◌≡◌, ℕ, ◌<◌, ◌==◌, Bool, true, false, List, [], ◌∷◌, length, Option, Some, None}
+use Rattle.std.proofs.Common.{◌≡◌, ℕ, ◌==◌, Bool, true, false, List, [], ◌∷◌, Option, Some, None}
 use Rattle.std.proofs.Common.{refl, sym, ap, ◌∙◌}
 use Rattle.std.specs.Prelude.{if◌then◌else◌}
 use Rattle.std.proofs.lemmas.Bool.{eqb-true}
 use Rattle.std.specs.Option.{option_map}
 use Rattle.std.specs.FinMap.{get}
-use Rattle.depot_rule.specs.Sums.{total}
 use Rattle.nfs_model.specs.Types.{Ownership}
 use Rattle.nfs_model.specs.volume.Stripes.{Card, OfFile, OfDirectory, StripeValue, card_owned, touch_taken, file_card_owned, touch_of}
 use Rattle.nfs_model.specs.volume.lemmas.Numbered.{get-changed_at, itself}
-use Rattle.filer_state.specs.state.Tree.{stripe_at, file_bytes, file_filled, file_touch, later}
+use Rattle.filer_state.specs.state.Tree.{file_bytes, file_filled, file_touch, later}
 use Rattle.filer_state.specs.state.WellFormed.{size_shown, owner_shown}
 use Rattle.filer_state.specs.state.Changes.{touches_taken, stripe_settled, stripes_settled}
 use Rattle.filer_state.specs.laws.lemmas.SameBlocks as blocks
@@ -101,11 +100,3 @@ module _ (f : ℕ) (owner : Ownership) where
 
   pub shown-stays : (s : StripeValue) (q : ℕ) → option_map size_shown (get (stripe_settled f owner s).cards q) ≡ option_map size_shown (get s.cards q)
   shown-stays s q = size-alike (touch_taken f s) q ∙ kept.shown-stays f s q
-
-  pub stripe-settled : (stripes : List StripeValue) (i : ℕ) → i < length stripes
-      → stripe_at (stripes_settled f owner stripes) i ≡ stripe_settled f owner (stripe_at stripes i)
-  stripe-settled stripes i less = blocks.stripe-mapped (stripe_settled f owner) stripes i less
-
-  pub total-settled : (g : StripeValue → ℕ) → ((s : StripeValue) → g (stripe_settled f owner s) ≡ g s) → (stripes : List StripeValue)
-      → total g (stripes_settled f owner stripes) ≡ total g stripes
-  total-settled g same stripes = blocks.total-mapped (stripe_settled f owner) g same stripes

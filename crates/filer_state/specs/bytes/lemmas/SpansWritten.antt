@@ -86,7 +86,7 @@ module _ (p : VolumeContents) (f : ℕ) (inode : Inode) (size blocks : ℕ) (ver
         each (b ∷ bs) = each bs
 
     -- the card of the file
-    is-card : (o : Option Card) → option_map size_shown o ≡ Some (Some size) 
+    is-card : (o : Option Card) → option_map size_shown o ≡ Some (Some size)
         → (touch : Option Moment) × (owner : Ownership) × (o ≡ Some (OfFile size touch owner))
     is-card None e = absurd cc
     is-card (Some (OfFile n touch owner)) e = let same : n ≡ size = cc in (touch, owner, ap (λ (k : ℕ). Some (OfFile k touch owner)) same)

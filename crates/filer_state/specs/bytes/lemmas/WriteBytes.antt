@@ -163,7 +163,7 @@ module _ (p : VolumeContents) (i f : ℕ) (handle : List ℕ) (w : Writing) (han
           changes =
               run ∙ ap told_if within_largest
               ∙ ap (λ (b : Bool). unless (if b then Some NoSpace else None) effect)
-              (space-there p i f w.offset n size inode verifier here small hands made sound fills-none)
+              (space-there p hands made (need file w.offset n) sound fills-none)
 
           sized : size_of (get p.logical.inodes.inodes f) ≡ Some size
           sized = ap size_of there ∙ ap size_in is_file

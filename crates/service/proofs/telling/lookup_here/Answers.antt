@@ -1,6 +1,8 @@
 use Rattle.std.proofs.Common.{◌≡◌, ℕ, List, Option, Some, None, refl, sym, ap, ◌∙◌, subst}
 use Rattle.std.specs.Option.{option_map}
 use Rattle.nfs_model.specs.Tree.{Logical}
+use Rattle.nfs_model.specs.Types as types
+use Rattle.nfs_model.specs.Work.{Replied}
 use Rattle.nfs_values.specs.Call.{call_of}
 use Rattle.nfs_values.specs.Caller.{caller_of}
 use Rattle.nfs_values.specs.Handle.{named_of}
@@ -26,7 +28,8 @@ returns c =
     let n = named_of c.args.named in
     let old = logical_before c.args.held.now in
     λ layout.
-    passes-runs layout n (caller_of c.args.run.caller.now) (moment_of c.args.run.moment) (call_of (calls.Lookup c.args.target.now)) old _ old
+    passes-runs layout n (caller_of c.args.run.caller.now) (moment_of c.args.run.moment) (call_of (calls.Lookup c.args.target.now)) old
+    (Replied (types.Success (answer_of (answers.Lookup c.lookup-told.result)))) old
     (sym c.lookup_refusal.ensures ∙ ap (option_map status_of) c.in_default.is)
     (served-runs n.volume (lookup_call c.args.target.now.directory (Logical n.volume) n.fileid c.args.target.now.name (moment_of c.args.run.moment))
     old old (answer_of (answers.Lookup c.lookup-told.result))
