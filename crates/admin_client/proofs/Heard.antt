@@ -54,7 +54,7 @@ verifier_fits = (omega arith, (omega arith, omega arith))
 
 -- its body has 20 bytes
 user_fits : (uid gid : ℕ) → uid < 2 ^ 32 → gid < 2 ^ 32 → Fits auth_sys_shape (user_value uid gid)
-user_fits uid gid u g = (omega arith, ((omega arith, omega arith), (u, (g, (omega arith, (omega arith, tt))))))
+user_fits uid gid u g = (omega arith, ((omega arith, omega arith), (u, (g, (omega arith, omega arith, tt)))))
 
 credential_fits : (user : AdminUser) → Fits auth_shape (credential_of user)
 credential_fits Nobody = verifier_fits
@@ -62,7 +62,7 @@ credential_fits (Of uid gid) = (omega arith, (omega arith, omega arith))
 
 acts : (user : AdminUser) → UserFits user → ActsFor (credential_of user) (acting_for user)
 acts Nobody fits = inl (refl, refl)
-acts (Of uid gid) fits = inr (refl, (user_value uid gid, ((user_fits uid gid fits.0 fits.1, refl), refl)))
+acts (Of uid gid) fits = inr (refl, (user_value uid gid, (user_fits uid gid fits.0 fits.1, refl), refl))
 
 call_fits : (xid number : ℕ) (user : AdminUser) → xid < 2 ^ 32 → number < 4
     → Fits call_shape (call_value xid (536870913, number) 1 (credential_of user) no_verifier)

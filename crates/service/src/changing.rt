@@ -90,7 +90,8 @@ pub(crate) fn write_here(
 {
     let Named { volume, fileid } = named;
     let written = bytes.as_slice();
-    let told = write_in_logical(held, fileid, offset, count, written, run.moment);
+    let caller = run.caller;
+    let told = write_in_logical(held, caller, fileid, offset, count, written, run.moment);
     outcome_written(volume, told)
 }
 

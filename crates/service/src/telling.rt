@@ -107,7 +107,7 @@ pub(crate) fn read_here(
         (moment_of run.entry.moment) (call_of (calls.Read handle.now offset count)))
         (logical_before held.now) (outcome_of result) (logical_before held.now) }
 {
-    let told = read_in_logical(run.alloc, held, named.fileid, offset, count);
+    let told = read_in_logical(run.alloc, held, run.caller, named.fileid, offset, count);
     outcome_read(told)
 }
 
