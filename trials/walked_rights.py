@@ -4,7 +4,7 @@ import random
 
 from peers import hold
 from repeats import Nobody, User
-from users import ALL_BITS, CLIENT_TIME, EXCLUSIVE, GUARDED, OK, ROOT, SERVER_TIME, UNCHECKED
+from users import ALL_BITS, CLIENT_TIME, DIRECTORY, EXCLUSIVE, GUARDED, OK, REGULAR, ROOT, SERVER_TIME, UNCHECKED
 
 # Users whose groups overlap, uid 0 and the anonymous user among them, and one with group 0.
 USERS = (
@@ -31,6 +31,11 @@ class Walk:
     def node(self):
         return self.random.choice(self.pairs)
 
+    def of_kind(self, kind):
+        """Mostly a file, or a directory."""
+        found = [it for it in self.pairs if it[1].kind == kind and it[1].is_there]
+        return self.random.choice(found) if found and self.random.random() < 0.9 else self.node()
+
     def given(self, *more):
         """Attributes to set, some of them."""
         choose, given = self.random.choice, {}
@@ -42,7 +47,7 @@ class Walk:
     def call(self):
         """A procedure, the places of nodes in its arguments, which are pairs, and what it is given."""
         choose, chance = self.random.choice, self.random.random()
-        name, here = choose(NAMES), self.node()
+        name, here, file = choose(NAMES), self.of_kind(DIRECTORY), self.of_kind(REGULAR)
         if chance < 0.16:
             how = choose((UNCHECKED, UNCHECKED, GUARDED, EXCLUSIVE))
             verifier = choose((b"11111111", b"22222222"))
@@ -52,20 +57,22 @@ class Walk:
             return "mkdir", (here, name), self.given()
         if chance < 0.38:
             times = (SERVER_TIME, CLIENT_TIME)
-            return "setattr", (here,), self.given(("size", (0, 4, 5000)), ("atime", times), ("mtime", times))
+            return "setattr", (self.node(),), self.given(("size", (0, 4, 5000)), ("atime", times), ("mtime", times))
         if chance < 0.50:
-            return "write", (here, choose((b"some", b"some", b"")), choose(OFFSETS)), {}
+            return "write", (file, choose((b"some", b"some", b"")), choose(OFFSETS)), {}
         if chance < 0.60:
-            return "rename", (here, name, self.node(), choose(NAMES[:5])), {}
+            return "rename", (here, name, self.of_kind(DIRECTORY), choose(NAMES[:5])), {}
         if chance < 0.66:
             return choose(("remove", "rmdir")), (here, name), {}
         if chance < 0.72:
             return "lookup", (here, name), {}
         if chance < 0.80:
-            return "read", (here, choose(OFFSETS)), {}
+            return "read", (file, choose(OFFSETS)), {}
         if chance < 0.88:
-            return "access", (here, choose((ALL_BITS, self.random.randrange(64)))), {}
-        return choose(("readdir", "readdirplus", "commit", "getattr", "pathconf")), (here,), {}
+            return "access", (self.node(), choose((ALL_BITS, self.random.randrange(64)))), {}
+        if chance < 0.92:
+            return choose(("readdir", "readdirplus")), (here,), {}
+        return choose(("commit", "commit", "getattr", "pathconf")), (file,), {}
 
     def is_left_out(self, procedure, arguments):
         """A RENAME of `.` or `..` is INVAL, whatever else, and REMOVE and RMDIR have faults of their own for them: no matter of rights."""
@@ -89,7 +96,7 @@ class Walk:
         hold(found.value == wanted.value, f"{what} tells {found.value!r}, not {wanted.value!r}")
         seen, known = found.attributes, wanted.attributes
         # a directory's size isn't known here
-        alike = seen == known or seen and known and seen[:4] == known[:4] and known.kind == 2
+        alike = seen == known or seen and known and seen[:4] == known[:4] and known.kind == DIRECTORY
         hold(alike, f"{what} shows {seen}, not {known}")
         if found.node is not None:
             hold(self.model_of.setdefault(found.node, wanted.node) is wanted.node, f"{what} tells another node")
