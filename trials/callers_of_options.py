@@ -2,6 +2,7 @@
 docs/OPERATING.md ("Who may do what"), RFC 1813 section 2.5 (ROFS, ACCES, PERM) and RFC 5531 section 8 (AUTH_TOOWEAK)."""
 
 import contextlib
+import threading
 
 from peers import Server, hold, read_all
 from permission_rows import equal, expect
@@ -21,9 +22,9 @@ SMALL = ("--ranges", "4")
 
 
 @contextlib.contextmanager
-def exported(filer, *options, **more):
+def exported(filer, *options, workers=2, **more):
     """A server with options, and users that ask it."""
-    with Server(filer, None, command="export", options=(*SMALL, *options)) as server, Users(server, **more) as ask:
+    with Server(filer, None, workers, "export", (*SMALL, *options)) as server, Users(server, **more) as ask:
         ask.server = server
         yield ask
 
@@ -298,6 +299,40 @@ def serve_checks_nobody(filer):
         expect(ask.remove(NOBODY, ask.root, b"file"), OK)
 
 
+# ---- calls at the same time
+
+
+def rights_hold_meanwhile(filer):
+    """While others write to all blocks of a file, on connections of their own: once a chmod is answered, each WRITE and READ goes by it,
+    and once a WRITE is answered set-id bits are gone."""
+    offsets, told, is_over = [4096 * number for number in range(16)], set(), threading.Event()
+
+    def write_on(ask, file, first):
+        while not is_over.is_set():
+            told.add(ask.write(BEN, file, b"meanwhile", offsets[first % 16]).status)
+            first += 5
+
+    with exported(filer, "--root-mode", "1777", workers=4) as ask, contextlib.ExitStack() as stack:
+        file = made(ask.create(ANN, ask.root, b"file"))
+        writers = [stack.enter_context(Users(ask.server)) for _ in range(6)]
+        threads = [threading.Thread(target=write_on, args=(it, file, number)) for number, it in enumerate(writers)]
+        for thread in threads:
+            thread.start()
+        try:
+            for turn in range(100):
+                expect(ask.setattr(ANN, file, mode=0o600), OK)
+                equal({ask.write(BEN, file, b"x", offset).status for offset in offsets}, {ACCES}, "WRITE once it is closed")
+                equal({ask.read(BEN, file, offset).status for offset in offsets}, {ACCES}, "READ once it is closed")
+                expect(ask.setattr(ANN, file, mode=0o6777), OK)
+                expect(ask.write(BEN, file, b"x", offsets[turn % 16]), OK)
+                equal(owner(ask, file), ("0o777", 1000, 100), "after a WRITE it")
+        finally:
+            is_over.set()
+            for thread in threads:
+                thread.join()
+        equal(told, {OK, ACCES}, "what those are told that write meanwhile")
+
+
 # ---- calls that come again
 
 
@@ -357,5 +392,6 @@ def admin_is_for_root(filer):
 
 CHECKS = (
     the_root_is_as_named, a_sticky_root, nobody_is_anonymous, root_is_squashed, all_are_squashed, ports_are_asked, some_only_read,
-    all_only_read, nobody_is_checked, serve_checks_nobody, a_reply_is_remembered, admin_is_for_root,
+    all_only_read, nobody_is_checked, serve_checks_nobody, rights_hold_meanwhile, a_reply_is_remembered,
+    admin_is_for_root,
 )  # fmt: skip
