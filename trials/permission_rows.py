@@ -33,6 +33,11 @@ def expect(told, status, what="it"):
     return told
 
 
+def shown(given):
+    """What is given, with modes as they are written."""
+    return {name: f"{value:04o}" if name == "mode" else value for name, value in given.items()}
+
+
 def equal(found, wanted, what="it"):
     hold(found == wanted, f"{what} is {found!r}, not {wanted!r}")
 
@@ -287,10 +292,10 @@ def owner_and_group(ask):
             place = Place(ask)
             build(place, 0o666)
             before = place.state()
-            expect(ask.setattr(who, place.node, **given), status, f"{given} of uid {who.uid}")
+            expect(ask.setattr(who, place.node, **given), status, f"{shown(given)} of uid {who.uid}")
             wanted = (0o666, UID, GID) if status else (0o666, given.get("uid", UID), given.get("gid", GID))
-            equal(place.attributes(place.node), (oct(wanted[0]), *wanted[1:]), f"after {given} of uid {who.uid} it")
-            hold(status == OK or place.state() == before, f"{given} of uid {who.uid} changes something")
+            equal(place.attributes(place.node), (oct(wanted[0]), *wanted[1:]), f"after {shown(given)} of uid {who.uid} it")
+            hold(status == OK or place.state() == before, f"{shown(given)} of uid {who.uid} changes something")
 
 
 def a_foreign_group_is_kept(ask):
@@ -386,7 +391,7 @@ def made_by(ask, who, directory, given, wanted):
     make = (("file", ask.create), ("below", ask.mkdir))
     for (name, run), its in zip(make, wanted):
         told = expect(run(who, where, name.encode(), **given), OK, f"making a {name}")
-        equal(place.attributes(told.node), (oct(its[0]), *its[1:]), f"a {name} of {given}")
+        equal(place.attributes(told.node), (oct(its[0]), *its[1:]), f"a {name} of {shown(given)}")
     if not given:
         told = expect(ask.create(who, where, b"exclusive", EXCLUSIVE), OK)
         equal(place.attributes(told.node), (oct(wanted[0][0]), *wanted[0][1:]), "an exclusive file")
@@ -425,7 +430,7 @@ MADE = (
 def makings():
     for who, directory, given, *wanted in MADE:
         row = lambda ask, u=who, d=directory, g=given, w=wanted: made_by(ask, u, d, g, w)
-        yield f"made by uid {who.uid} in {directory[0]:04o} with {given}", row
+        yield f"made by uid {who.uid} in {directory[0]:04o} with {shown(given)}", row
 
 
 def over_another_s_file(ask):
@@ -440,11 +445,11 @@ def over_another_s_file(ask):
         place = Place(ask)
         node = place.file(mode)
         before = place.state()
-        told = expect(ask.create(who, place.home, b"file", **given), status, f"{given} of uid {who.uid}")
+        told = expect(ask.create(who, place.home, b"file", **given), status, f"{shown(given)} of uid {who.uid}")
         hold(told.node in (None, node), "it tells another file")
         found = ask.getattr(ROOT, node).attributes
-        equal((found.mode, found.uid, found.gid, found.size), (mode, UID, GID, size), f"after {given} of uid {who.uid} it")
-        hold("size" in given and status == OK or place.state() == before, f"{given} of uid {who.uid} changes something")
+        equal((found.mode, found.uid, found.gid, found.size), (mode, UID, GID, size), f"after {shown(given)} of uid {who.uid} it")
+        hold("size" in given and status == OK or place.state() == before, f"{shown(given)} of uid {who.uid} changes something")
 
 
 def exclusive_again(ask):
@@ -551,7 +556,8 @@ def what_comes_first(ask):
     for told in (
         ask.lookup(OTHER, closed, long), ask.create(OTHER, closed, long), ask.mkdir(OTHER, closed, b"."), ask.remove(OTHER, closed, b"none"),
         ask.mkdir(OTHER, closed, b"inner"), ask.create(OTHER, closed, b"inner", GUARDED), ask.rmdir(OTHER, closed, b"inner"),
-        ask.rename(OTHER, closed, b"none", closed, long), ask.write(OTHER, file, b"x", 1 << 60), ask.setattr(OTHER, file, size=1 << 60),
+        ask.rename(OTHER, closed, b"none", closed, long), ask.rename(OTHER, place.home, long, closed, b"new"),
+        ask.write(OTHER, file, b"x", 1 << 60), ask.setattr(OTHER, file, size=1 << 60),
     ):  # fmt: skip
         expect(told, ACCES)
     expect(ask.setattr(OTHER, closed, size=1), ACCES, "a size of a directory by another")
@@ -585,7 +591,7 @@ def everywhere_in_a_file(ask):
     ):  # fmt: skip
         expect(ask.setattr(ROOT, node, **given), OK)
         for who, wanted in ((OWNER, owner), (GROUP, group), (OTHER, other)):
-            equal(rights(who), {wanted}, f"after {given} what uid {who.uid} may read and write")
+            equal(rights(who), {wanted}, f"after {shown(given)} what uid {who.uid} may read and write")
     equal(ask.getattr(ROOT, node).attributes.size, 39 * 4096 + 5, "the size")
 
 
