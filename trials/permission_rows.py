@@ -8,9 +8,10 @@ from collections import namedtuple
 from peers import hold
 from repeats import User
 from users import (
-    ACCES, CLIENT_TIME, EXCLUSIVE, EXIST, GUARDED, INVAL, NAMETOOLONG, NOENT, NOTDIR, NOTSUPP, OK, PERM, ROOT, SERVER_TIME,
-    STALE, UNCHECKED,
+    ACCES, CLIENT_TIME, EXCLUSIVE, EXIST, GUARDED, INVAL, NAMETOOLONG, NOENT, NOTDIR, NOTSUPP, NOT_SYNC, OK, PERM, ROOT,
+    SERVER_TIME, STALE, UNCHECKED,
 )  # fmt: skip
+from xdr import words
 
 # Of a node of uid 1000 and gid 200: its owner, one of its group, one that has the group as a further one, or as the last of sixteen,
 # and another. The owner is of the group too, and the digit of the group isn't its own.
@@ -606,11 +607,16 @@ def who_owns_is_asked_anew(ask):
 
 
 def a_guard_comes_behind(ask):
-    """What isn't permitted is told before the guard of a SETATTR is looked at (NOT_SYNC), which would tell a time."""
+    """What isn't permitted is told before the guard of a SETATTR is looked at, which would tell a time (NOT_SYNC)."""
     place = Place(ask)
-    node = place.file(0o600)
-    expect(ask.setattr(OTHER, node, mode=0o666), PERM)
-    expect(ask.setattr(OTHER, node, size=1), ACCES)
+    node = place.file(0o640)
+    for who, given, status in (
+        (OTHER, {"mode": 0o666}, PERM), (OTHER, {"size": 1}, ACCES), (GROUP, {}, ACCES), (OWNER, {"uid": 1001}, PERM),
+        (OWNER, {"mode": 0o666}, NOT_SYNC), (OWNER, {"size": 1}, NOT_SYNC), (ROOT, {"uid": 1001}, NOT_SYNC),
+    ):  # fmt: skip
+        before = place.state()
+        expect(ask.setattr(who, node, guard=words(1, 1), **given), status, f"{shown(given)} of uid {who.uid}")
+        hold(place.state() == before, "something is changed")
 
 
 def owners_are_restricted(ask):

@@ -5,8 +5,8 @@ The rules: IEEE Std 1003.1, section 4.7 ("File Access Permissions"), and chmod, 
 1813 sections 2.5, 3.3.2, 3.3.7, 3.3.8 and 4.4; and docs/SPECIFICATION.md where these leave a choice."""
 
 from users import (
-    ACCES, CLIENT_TIME, DIRECTORY, EXCLUSIVE, EXIST, GUARDED, INVAL, ISDIR, NAMETOOLONG, NOENT, NOTDIR, NOTEMPTY, NOTSUPP, OK,
-    PERM, REGULAR, ROFS, STALE, UNCHECKED, Attributes, Told,
+    ACCES, CLIENT_TIME, DIRECTORY, EXCLUSIVE, EXIST, GUARDED, INVAL, ISDIR, NAMETOOLONG, NOENT, NOTDIR, NOTEMPTY, NOTSUPP, NOT_SYNC,
+    OK, PERM, REGULAR, ROFS, STALE, UNCHECKED, Attributes, Told,
 )  # fmt: skip
 
 SET_UID, SET_GID, STICKY = 0o4000, 0o2000, 0o1000
@@ -121,11 +121,13 @@ class Posix:
         return node.is_there, node.attributes(), node.changes
 
     @procedure
-    def setattr(self, user, node, **given):
+    def setattr(self, user, node, guard=None, **given):
+        """A guard that is given is another time."""
         caller = self.changer(user)
         there(node)
         if not caller.is_root:
             self.may_set(caller, node, given)
+        must(guard is None, NOT_SYNC)
         must(node.kind == REGULAR or "size" not in given, INVAL)
         self.set(caller, node, given)
         return Told(OK, node, node.attributes())
