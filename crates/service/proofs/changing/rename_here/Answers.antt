@@ -33,9 +33,9 @@ returns-in-Some-clause-runs c =
     (λ p. says-nothing call (Logical n.volume) (stored p) refl)
     (subst (λ (id : ℕ). refusal_held caller call old n.fileid id ≡ Some (status_of c.in-Some.status)) c.fileid_of-other.ensures
     (subst (λ (name : List ℕ). refusal_held caller (types.Rename from.directory from.name to.directory name) old n.fileid c.fileid_of-other.result.0
-    ≡ Some (status_of c.in-Some.status)) c.as_bytes-2.ensures
-    (subst (λ (name : List ℕ). refusal_held caller (types.Rename from.directory name to.directory c.as_bytes-2.result.now) old n.fileid
-    c.fileid_of-other.result.0 ≡ Some (status_of c.in-Some.status)) c.as_bytes.ensures (sym c.in-Some.ensures))))
+    ≡ Some (status_of c.in-Some.status)) c.as_bytes-to.ensures
+    (subst (λ (name : List ℕ). refusal_held caller (types.Rename from.directory name to.directory c.as_bytes-to.result.now) old n.fileid
+    c.fileid_of-other.result.0 ≡ Some (status_of c.in-Some.status)) c.as_bytes-from.ensures (sym c.in-Some.ensures))))
 
 pub returns-clause-runs : goal.returns-clause-runs
 returns-clause-runs c =
@@ -53,14 +53,14 @@ returns-clause-runs c =
     let none : refusal_held caller call old n.fileid (fileid_in (named_by L to.directory)) ≡ None =
     subst (λ (id : ℕ). refusal_held caller call old n.fileid id ≡ None) c.fileid_of-other.ensures
     (subst (λ (name : List ℕ). refusal_held caller (types.Rename from.directory from.name to.directory name) old n.fileid c.fileid_of-other.result.0 ≡ None)
-    c.as_bytes-2.ensures
-    (subst (λ (name : List ℕ). refusal_held caller (types.Rename from.directory name to.directory c.as_bytes-2.result.now) old n.fileid
-    c.fileid_of-other.result.0 ≡ None) c.as_bytes.ensures (sym c.renaming_refusal.ensures ∙ ap (option_map status_of) c.in_default.is))) in
+    c.as_bytes-to.ensures
+    (subst (λ (name : List ℕ). refusal_held caller (types.Rename from.directory name to.directory c.as_bytes-to.result.now) old n.fileid
+    c.fileid_of-other.result.0 ≡ None) c.as_bytes-from.ensures (sym c.renaming_refusal.ensures ∙ ap (option_map status_of) c.in_default.is))) in
     passes-runs L n caller moment call old (outcome_of c.outcome_renamed.result) new none
     (renaming-runs L n other from.directory from.name to.directory to.name (caller_of c.args.run.caller.now) moment old new
     c.rename.result (outcome_of c.outcome_renamed.result) (at-logical (named_by L to.directory) (Logical n.volume) both.1).names refl
     c.outcome_renamed.ensures
     (subst (λ (id : ℕ). Renames n.volume n.fileid from.name id to.name moment old c.rename.result new) c.fileid_of-other.ensures
-    (subst (λ (name : List ℕ). Renames n.volume n.fileid from.name c.fileid_of-other.result.0 name moment old c.rename.result new) c.as_bytes-2.ensures
-    (subst (λ (name : List ℕ). Renames n.volume n.fileid name c.fileid_of-other.result.0 c.as_bytes-2.result.now moment old c.rename.result new)
-    c.as_bytes.ensures c.rename.ensures.right))))
+    (subst (λ (name : List ℕ). Renames n.volume n.fileid from.name c.fileid_of-other.result.0 name moment old c.rename.result new) c.as_bytes-to.ensures
+    (subst (λ (name : List ℕ). Renames n.volume n.fileid name c.fileid_of-other.result.0 c.as_bytes-to.result.now moment old c.rename.result new)
+    c.as_bytes-from.ensures c.rename.ensures.right))))

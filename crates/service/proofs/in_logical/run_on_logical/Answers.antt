@@ -9,8 +9,8 @@ use Rattle.service.specs.Running.{outcome_of}
 use Rattle.service.proofs.Runs.{runs-here}
 use Rattle.service.proofs.in_logical.run_on_logical.Goals as goal
 
-pub returns-then-clause-runs : goal.returns-then-clause-runs
-returns-then-clause-runs c =
+pub returns-then-is_told-clause-runs : goal.returns-then-is_told-clause-runs
+returns-then-is_told-clause-runs c =
     let L = layout_of c.args.layout.now in
     let v = c.args.volume.0 in
     let old = logical_before c.args.held.now in

@@ -1,4 +1,4 @@
-use Rattle.std.proofs.Common.{Ok, take, ap, subst, ◌∙◌}
+use Rattle.std.proofs.Common.{Ok, take, ap, subst}
 use Rattle.std.specs.Option.{option_map}
 use Rattle.nfs_model.specs.Serial.Write.{Writing}
 use Rattle.nfs_values.specs.Moment.{moment_of}

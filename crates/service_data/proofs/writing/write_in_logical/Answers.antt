@@ -1,4 +1,4 @@
-use Rattle.std.proofs.Common.{◌≡◌, ap, ◌∙◌}
+use Rattle.std.proofs.Common.{ap, ◌∙◌}
 use Rattle.std.specs.Option.{option_map}
 use Rattle.nfs_model.specs.Serial.Write.{Writing}
 use Rattle.nfs_model.specs.volume.Inodes.{inode_of}
