@@ -2,9 +2,11 @@
 docs/OPERATING.md ("Who may do what"), RFC 1813 section 2.5 (ROFS, ACCES, PERM) and RFC 5531 section 8 (AUTH_TOOWEAK)."""
 
 import contextlib
+import subprocess
 import threading
+from types import SimpleNamespace
 
-from peers import Server, hold, read_all
+from peers import Server, export_at, hold, read_all
 from permission_rows import equal, expect
 from plain import ADMIN
 from repeats import Nobody, User, record, to_set
@@ -260,6 +262,43 @@ def all_only_read(filer):
         expect(first.write(BEN, file), OK)
 
 
+class AtAllAddresses:
+    """A server that listens at `[::]`, as it is reached by IPv4 and by IPv6."""
+
+    def __init__(self, filer, *options):
+        command = [filer, "export", "--listen", "[::]:0", "--workers", "2", *SMALL, *options]
+        self.process = subprocess.Popen(command, stdout=subprocess.PIPE, stderr=subprocess.DEVNULL, text=True)
+        self.port = int(self.process.stdout.readline().rsplit(":", 1)[1])
+        self.service = export_at(("127.0.0.1", self.port))
+
+    def users(self, host):
+        """Users that come from an address of this machine."""
+        reached = "::1" if ":" in host else "127.0.0.1"
+        return Users(SimpleNamespace(address=(reached, self.port), service=self.service), host)
+
+    def __enter__(self):
+        return self
+
+    def __exit__(self, *_):
+        self.process.kill()
+        self.process.wait()
+        self.process.stdout.close()
+
+
+def some_only_read_at_all_addresses(filer):
+    """Who comes by IPv4 to a listener at `[::]` goes by the networks of IPv4."""
+    ipv4 = ("--allow-read", "127.0.0.2", "--allow", "127.0.0.0/8", "--allow", "::1")
+    ipv6 = ("--allow-read", "::/0", "--allow", "127.0.0.1", "--allow-read", "127.0.0.2")
+    for networks, readers, writers in ((ipv4, ("127.0.0.2",), ("127.0.0.1", "::1")), (ipv6, ("::1", "127.0.0.2"), ("127.0.0.1",))):
+        with AtAllAddresses(filer, *networks) as server, server.users("127.0.0.1") as first:
+            for host in writers:
+                with server.users(host) as ask:
+                    expect(ask.mkdir(ROOT, ask.root, host.encode()), OK, f"{networks}: MKDIR from {host}")
+            for host in readers:
+                with server.users(host) as ask:
+                    reads_alone(ask, first, b"for " + host.encode())
+
+
 # ---- where nobody is checked
 
 
@@ -392,6 +431,6 @@ def admin_is_for_root(filer):
 
 CHECKS = (
     the_root_is_as_named, a_sticky_root, nobody_is_anonymous, root_is_squashed, all_are_squashed, ports_are_asked, some_only_read,
-    all_only_read, nobody_is_checked, serve_checks_nobody, rights_hold_meanwhile, a_reply_is_remembered,
+    some_only_read_at_all_addresses, all_only_read, nobody_is_checked, serve_checks_nobody, rights_hold_meanwhile, a_reply_is_remembered,
     admin_is_for_root,
 )  # fmt: skip

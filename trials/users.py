@@ -51,11 +51,17 @@ def node_in(r):
     return Told(OK, node, attributes)
 
 
+def socket_to(host):
+    """A socket of IPv4 or of IPv6."""
+    peer = socket.socket(socket.AF_INET6 if ":" in host else socket.AF_INET)
+    peer.settimeout(SECONDS)
+    return peer
+
+
 def low_port(address, host):
     """A connection from a port below 1024, which root alone has."""
     for port in range(1023, 511, -1):
-        peer = socket.socket()
-        peer.settimeout(SECONDS)
+        peer = socket_to(host)
         try:
             peer.bind((host, port))
             peer.connect(address)
@@ -68,8 +74,7 @@ def low_port(address, host):
 
 
 def high_port(address, host):
-    peer = socket.socket()
-    peer.settimeout(SECONDS)
+    peer = socket_to(host)
     peer.bind((host, 0))
     peer.connect(address)
     return peer
