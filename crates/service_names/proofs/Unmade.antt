@@ -201,7 +201,8 @@ module _ {P : Type 0} (parent : Parent) (name : List ℕ) (old : FilerLogical P)
           has = subst (λ (m : ℕ). InFirst (HasCard owner made.kind f) m old.stripes.at two.stripes.at) (ap (λ (l : LogicalValue). l.stripes) created)
               (subst (λ xs. InFirst (HasCard owner made.kind f) one.own.stripes xs two.stripes.at) (ap (λ s. s.at) same) cards)
 
-          placed_now : (logical_after old three).stripes ≡ map (card_made (ownership_of made.attributes) made.kind old.own.inodes.next) (logical_before old).stripes
+          placed_now : (logical_after old three).stripes ≡ map (card_made (ownership_of made.attributes) made.kind old.own.inodes.next)
+              (logical_before old).stripes
           placed_now =
               ap (λ s. each (λ i. stripe_value (placed s.at i)) 0 n) stripes
               ∙ cards-made owner made.kind f n old.stripes.at two.stripes.at place-filled has

@@ -29,8 +29,8 @@ pub(crate) fn put_cards(
     ensures own { held.new.own ≡ held.old.own }
     ensures others { InFirst (DiffersByCard fileid.0) held.old.own.stripes
         held.old.stripes.at held.new.stripes.at }
-    ensures ok { OnOk result (InFirst (HasCard (ownership_of owner) (kind_value kind) fileid.0) held.old.own.stripes
-        held.old.stripes.at held.new.stripes.at) }
+    ensures ok { OnOk result (InFirst (HasCard (ownership_of owner) (kind_value kind) fileid.0)
+        held.old.own.stripes held.old.stripes.at held.new.stripes.at) }
 {
     let mut left = held.own.get().stripes as usize;
     while left > 0 {

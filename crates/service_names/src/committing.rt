@@ -70,11 +70,7 @@ pub fn committing_refusal(
 
 /// What of a COMMIT is refused to a caller that is checked: of a file that it may neither read nor
 /// write.
-fn committing_fault(
-    held: &LogicalHeld<Files>,
-    fileid: Fileid,
-    who: &Credential,
-) -> Option<Status>
+fn committing_fault(held: &LogicalHeld<Files>, fileid: Fileid, who: &Credential) -> Option<Status>
     ensures { option_map status_of result
         ≡ of_file_inode (get held.now.own.inodes.inodes fileid.0)
         (λ file. needs (may_read (credential_of who.now) file

@@ -22,8 +22,8 @@ use vbn_ranges::DeadBlocks;
 /// numbers come into use again: to give it back takes longer than all the rest of a cut.
 const MANY_BLOCKS: u32 = 1024;
 
-/// Sets a file to a size and an owner in the stripes of its volume; its blocks past it are dead then. Of so
-/// many filled blocks it tells how many are left. It needs no memory.
+/// Sets a file to a size and an owner in the stripes of its volume; its blocks past it are dead
+/// then. Of so many filled blocks it tells how many are left. It needs no memory.
 pub(crate) fn size_stripes(
     held: &mut LogicalHeld<Files>,
     fileid: Fileid,
@@ -64,7 +64,8 @@ pub(crate) fn size_stripes(
     rest
 }
 
-/// Sets a file to a size and an owner in the stripe in a place; no block leaves it where there is no stripe.
+/// Sets a file to a size and an owner in the stripe in a place; no block leaves it where there is no
+/// stripe.
 fn size_place(
     place: &mut Option<StripeHeld<Files>>,
     own: &mut LogicalParcel,

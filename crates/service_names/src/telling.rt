@@ -85,7 +85,8 @@ pub fn path_configuration(
     caller: &Caller,
 ) -> Result<PathConfigurationResults, Status>
     requires whole { HasVolume volume.0 logical_lens [] (logical_before held.now) }
-    ensures right { TellsPath volume.0 fileid.0 (caller_of caller.now) (logical_before held.now) result }
+    ensures right { TellsPath volume.0 fileid.0 (caller_of caller.now)
+        (logical_before held.now) result }
 {
     match object_at(held, volume, fileid) {
         Ok(object) => Ok(PathConfigurationResults {

@@ -11,5 +11,6 @@ returns-in-RegularFile-clause-others c =
 
 pub returns-in-Directory-clause-others : goal.returns-in-Directory-clause-others
 returns-in-Directory-clause-others c =
-    put-else c.args.fileid.0 (ownership_of c.args.owner) c.args.stripe.now (kind_value c.args.kind) c.set_card-in-Directory.new.self c.set_card-in-Directory.result
+    put-else c.args.fileid.0 (ownership_of c.args.owner) c.args.stripe.now (kind_value c.args.kind) c.set_card-in-Directory.new.self
+    c.set_card-in-Directory.result
     (search rules) c.set_card-in-Directory.ensures.err

@@ -10,9 +10,11 @@ pub loop-left-init : goal.loop-left-init
 loop-left-init c =
     let same : c.args.held.now.own.stripes ≡ c.get.result.now.stripes = sym (ap (λ (l : LogicalValue). l.stripes) c.get.ensures) in (
       omega arith,
-      subst (λ (n : ℕ). AreSizedFrom c.args.fileid.0 c.args.size (ownership_of c.args.owner) c.args.held.now.own.stripes c.args.held.now.stripes.at c.args.held.now.own
+      subst (λ (n : ℕ). AreSizedFrom c.args.fileid.0 c.args.size (ownership_of c.args.owner) c.args.held.now.own.stripes c.args.held.now.stripes.at
+          c.args.held.now.own
           c.args.filled n c.args.held.now.stripes.at c.args.held.now.own c.args.filled) same
-          (none-sized c.args.fileid.0 c.args.size (ownership_of c.args.owner) c.args.held.now.own.stripes c.args.held.now.stripes.at c.args.held.now.own c.args.filled),
+          (none-sized c.args.fileid.0 c.args.size (ownership_of c.args.owner) c.args.held.now.own.stripes c.args.held.now.stripes.at c.args.held.now.own
+          c.args.filled),
     )
 
 pub size_place-rest-requires-clause-card : goal.size_place-rest-requires-clause-card
@@ -21,7 +23,8 @@ size_place-rest-requires-clause-card c =
     let long : length c.loop-left.held.stripes.at ≡ 16 = search rules in
     let some = c.loop-left-test.true in
     let below = c.loop-left.invariant.0 in
-    let same = place-was c.args.fileid.0 c.args.size (ownership_of c.args.owner) c.args.held.now.own.stripes c.args.held.now.stripes.at c.args.held.now.own c.args.filled
+    let same = place-was c.args.fileid.0 c.args.size (ownership_of c.args.owner) c.args.held.now.own.stripes c.args.held.now.stripes.at c.args.held.now.own
+    c.args.filled
     c.loop-left.left c.loop-left.held.stripes.at c.loop-left.held.own c.loop-left.rest _ _ some below (omega arith) refl c.loop-left.invariant.1 in
     subst (λ (s : StripeValue). IsSome (get s.cards c.args.fileid.0)) (sym same)
     (card-of-place c.args.held.now c.args.fileid.0 c.args.size (c.loop-left.left - 1) c.requires (omega arith))
@@ -32,9 +35,11 @@ size_place-rest-requires-clause-numbers c =
     let long : length c.loop-left.held.stripes.at ≡ 16 = search rules in
     let some = c.loop-left-test.true in
     let below = c.loop-left.invariant.0 in
-    let same = place-was c.args.fileid.0 c.args.size (ownership_of c.args.owner) c.args.held.now.own.stripes c.args.held.now.stripes.at c.args.held.now.own c.args.filled
+    let same = place-was c.args.fileid.0 c.args.size (ownership_of c.args.owner) c.args.held.now.own.stripes c.args.held.now.stripes.at c.args.held.now.own
+    c.args.filled
     c.loop-left.left c.loop-left.held.stripes.at c.loop-left.held.own c.loop-left.rest _ _ some below (omega arith) refl c.loop-left.invariant.1 in
-    let kept = size-stays c.args.fileid.0 c.args.size (ownership_of c.args.owner) c.args.held.now.own.stripes c.args.held.now.stripes.at c.args.held.now.own c.args.filled
+    let kept = size-stays c.args.fileid.0 c.args.size (ownership_of c.args.owner) c.args.held.now.own.stripes c.args.held.now.stripes.at
+    c.args.held.now.own c.args.filled
     c.loop-left.left c.loop-left.held.stripes.at c.loop-left.held.own c.loop-left.rest below c.loop-left.invariant.1 in
     numbers-then _ _ c.args.fileid.0 c.args.size _ _ kept same
     (numbers-of-place c.args.held.now c.args.fileid.0 c.args.size (c.loop-left.left - 1) c.requires (omega arith))

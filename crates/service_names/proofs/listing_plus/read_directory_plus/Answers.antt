@@ -20,7 +20,10 @@ returns-in-Err c =
     let v = c.args.volume.0 in
     let fileid = c.args.directory.0 in
     let set = logical_before c.args.held.now in
-    record { right = lists v fileid c.args.asked (caller_of c.args.caller.now) set (Err c.in-Err.status) (sym (c.in-Err.ensures.told (listed_in v fileid c.args.asked (caller_of c.args.caller.now) set))) }
+    record {
+      right = lists v fileid c.args.asked (caller_of c.args.caller.now) set (Err c.in-Err.status)
+          (sym (c.in-Err.ensures.told (listed_in v fileid c.args.asked (caller_of c.args.caller.now) set)));
+    }
 
 pub returns-then-is_bad_cookie : goal.returns-then-is_bad_cookie
 returns-then-is_bad_cookie c =
@@ -46,9 +49,13 @@ returns-then-count-lt-PAGE_SIZE c =
     let told = entry_for (caller_of c.args.caller.now) v set inode in
     let names = min c.args.asked.names_count most_bytes in
     let remaining = above_cookie c.args.asked.cookie.0 (all_under set.own fileid parent) in
-    let good = good-cookie v fileid c.args.asked (caller_of c.args.caller.now) set inode parent (c.in-Ok.ensures.told (listed_in v fileid c.args.asked (caller_of c.args.caller.now) set))
+    let good = good-cookie v fileid c.args.asked (caller_of c.args.caller.now) set inode parent
+    (c.in-Ok.ensures.told (listed_in v fileid c.args.asked (caller_of c.args.caller.now) set))
     (sym c.is_bad_cookie.ensures ∙ c.if-is_bad_cookie.false) n c.min-count.ensures in
-    record { right = lists v fileid c.args.asked (caller_of c.args.caller.now) set (Err TooSmall) (sym (good ∙ plus-small n told directory names remaining c.if-count-lt-PAGE_SIZE.true)) }
+    record {
+      right = lists v fileid c.args.asked (caller_of c.args.caller.now) set (Err TooSmall)
+          (sym (good ∙ plus-small n told directory names remaining c.if-count-lt-PAGE_SIZE.true));
+    }
 
 pub returns-in_err-page : goal.returns-in_err-page
 returns-in_err-page c =
@@ -62,7 +69,8 @@ returns-in_err-page c =
     let told = entry_if c.sees_names_alone-is_bare.result v set in
     let names = min c.args.asked.names_count most_bytes in
     let remaining = above_cookie c.args.asked.cookie.0 (all_under set.own fileid parent) in
-    let good = good-page v fileid c.args.asked (caller_of c.args.caller.now) set inode parent (c.in-Ok.ensures.told (listed_in v fileid c.args.asked (caller_of c.args.caller.now) set))
+    let good = good-page v fileid c.args.asked (caller_of c.args.caller.now) set inode parent
+    (c.in-Ok.ensures.told (listed_in v fileid c.args.asked (caller_of c.args.caller.now) set))
     (sym c.is_bad_cookie.ensures ∙ c.if-is_bad_cookie.false) n c.min-count.ensures c.sees_names_alone-is_bare.result c.sees_names_alone-is_bare.ensures in
     record {
       right = starves v fileid c.args.asked (caller_of c.args.caller.now) set c.from_residual.result c.from_residual.ensures.0 _ _ _
@@ -81,7 +89,8 @@ returns-then-tells_no_node c =
     let told = entry_if c.sees_names_alone-is_bare.result v set in
     let names = min c.args.asked.names_count most_bytes in
     let remaining = above_cookie c.args.asked.cookie.0 (all_under set.own fileid parent) in
-    let good = good-page v fileid c.args.asked (caller_of c.args.caller.now) set inode parent (c.in-Ok.ensures.told (listed_in v fileid c.args.asked (caller_of c.args.caller.now) set))
+    let good = good-page v fileid c.args.asked (caller_of c.args.caller.now) set inode parent
+    (c.in-Ok.ensures.told (listed_in v fileid c.args.asked (caller_of c.args.caller.now) set))
     (sym c.is_bad_cookie.ensures ∙ c.if-is_bad_cookie.false) n c.min-count.ensures c.sees_names_alone-is_bare.result c.sees_names_alone-is_bare.ensures in
     record {
       right = lists v fileid c.args.asked (caller_of c.args.caller.now) set (Err TooSmall)
@@ -106,7 +115,8 @@ returns c =
     let told = entry_if c.sees_names_alone-is_bare.result v set in
     let names = min c.args.asked.names_count most_bytes in
     let remaining = above_cookie c.args.asked.cookie.0 (all_under set.own fileid parent) in
-    let good = good-page v fileid c.args.asked (caller_of c.args.caller.now) set inode parent (c.in-Ok.ensures.told (listed_in v fileid c.args.asked (caller_of c.args.caller.now) set))
+    let good = good-page v fileid c.args.asked (caller_of c.args.caller.now) set inode parent
+    (c.in-Ok.ensures.told (listed_in v fileid c.args.asked (caller_of c.args.caller.now) set))
     (sym c.is_bad_cookie.ensures ∙ c.if-is_bad_cookie.false) n c.min-count.ensures c.sees_names_alone-is_bare.result c.sees_names_alone-is_bare.ensures in
     record {
       right = lists v fileid c.args.asked (caller_of c.args.caller.now) set

@@ -14,7 +14,8 @@ returns-in-Ok c =
     record {
       right = mounts v root path (caller_of c.args.caller.now) set (Ok (record { handle = c.naming.result }))
           ((λ j. MountDone (c.naming.ensures j))
-          ∙ leads-below v root path c.below_volume.result.now (caller_of c.args.caller.now) set _ (Ok c.in-Ok.fileid) c.below_volume.ensures (c.directory_below.ensures v) c.in-Ok.is);
+          ∙ leads-below v root path c.below_volume.result.now (caller_of c.args.caller.now) set _ (Ok c.in-Ok.fileid) c.below_volume.ensures
+          (c.directory_below.ensures v) c.in-Ok.is);
     }
 
 pub returns-in-Err : goal.returns-in-Err
@@ -25,5 +26,6 @@ returns-in-Err c =
     let set = logical_before c.args.held.now in
     record {
       right = mounts v root path (caller_of c.args.caller.now) set (Err c.in-Err.status)
-          (leads-below v root path c.below_volume.result.now (caller_of c.args.caller.now) set _ (Err c.in-Err.status) c.below_volume.ensures (c.directory_below.ensures v) c.in-Err.is);
+          (leads-below v root path c.below_volume.result.now (caller_of c.args.caller.now) set _ (Err c.in-Err.status) c.below_volume.ensures
+          (c.directory_below.ensures v) c.in-Err.is);
     }
