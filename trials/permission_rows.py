@@ -22,7 +22,9 @@ SIXTEENTH = User(1003, 300, (*range(301, 316), 200))
 OTHER = User(1004, 300, (301, 302))
 UID, GID = 1000, 200
 # of each the place of its digit in a mode
-CLASSES = {"the owner": (OWNER, 6), "the group": (GROUP, 3), "a further group": (FURTHER, 3), "the 16th": (SIXTEENTH, 3), "others": (OTHER, 0)}
+CLASSES = {
+    "the owner": (OWNER, 6), "the group": (GROUP, 3), "a further group": (FURTHER, 3), "the 16th": (SIXTEENTH, 3), "others": (OTHER, 0),
+}  # fmt: skip
 # digits of a mode with these rights among them
 ANY, NONE = tuple(range(8)), ()
 R, W, X, WX, R_OR_X, SOME = (4, 5, 6, 7), (2, 3, 6, 7), (1, 3, 5, 7), (3, 7), (1, 3, 4, 5, 6, 7), (1, 2, 3, 4, 5, 6, 7)
@@ -347,7 +349,9 @@ def set_ids_end_at_a_chown(ask):
     """A new owner or group, whoever gives it; but not together with a mode."""
     place = Place(ask)
     for mode, left in CLEARED.items():
-        for who, given in ((OWNER, {"uid": UID}), (OWNER, {"gid": GID}), (ROOT, {"uid": 7}), (ROOT, {"gid": 8}), (ROOT, {"uid": UID, "gid": GID})):
+        for who, given in (
+            (OWNER, {"uid": UID}), (OWNER, {"gid": GID}), (ROOT, {"uid": 7}), (ROOT, {"gid": 8}), (ROOT, {"uid": UID, "gid": GID}),
+        ):  # fmt: skip
             node = place.file(mode, name=f"{mode}-{who.uid}-{sorted(given)}")
             expect(ask.setattr(who, node, **given), OK)
             equal(place.attributes(node)[0], oct(left), f"the mode {mode:04o} after {given} of uid {who.uid}")
@@ -454,7 +458,7 @@ def over_another_s_file(ask):
 
 
 def exclusive_again(ask):
-    """A CREATE of the same verifier tells what it made and changes nothing (section 3.3.8), also once the directory is closed to new names."""
+    """A CREATE of the same verifier tells what it made and changes nothing (section 3.3.8), also where no new name may be made."""
     place = Place(ask)
     where = place.directory(0o777)
     node = place.made("made", ask.create(OTHER, where, b"made", EXCLUSIVE, b"11111111"))
@@ -499,7 +503,9 @@ def sticky(ask, mode, outcome):
 
 def a_directory_that_moves(ask):
     """rename: a directory that comes into another one has to be writable itself, as its `..` changes."""
-    for mode, who, may in ((0o700, OTHER, False), (0o755, OTHER, False), (0o702, OTHER, True), (0o070, OWNER, False), (0o200, OWNER, True), (0, ROOT, True)):
+    for mode, who, may in (
+        (0o700, OTHER, False), (0o755, OTHER, False), (0o702, OTHER, True), (0o070, OWNER, False), (0o200, OWNER, True), (0, ROOT, True),
+    ):  # fmt: skip
         place = Place(ask)
         place.directory(mode, name="moves"), place.directory(0o777, name="to")
         expect(ask.rename(who, place.home, b"moves", place.home, b"stays"), OK, "within its directory")
@@ -555,7 +561,8 @@ def what_comes_first(ask):
         expect(told, NOTDIR)
     long = 256 * b"n"
     for told in (
-        ask.lookup(OTHER, closed, long), ask.create(OTHER, closed, long), ask.mkdir(OTHER, closed, b"."), ask.remove(OTHER, closed, b"none"),
+        ask.lookup(OTHER, closed, long), ask.create(OTHER, closed, long), ask.mkdir(OTHER, closed, b"."),
+        ask.remove(OTHER, closed, b"none"),
         ask.mkdir(OTHER, closed, b"inner"), ask.create(OTHER, closed, b"inner", GUARDED), ask.rmdir(OTHER, closed, b"inner"),
         ask.rename(OTHER, closed, b"none", closed, long), ask.rename(OTHER, place.home, long, closed, b"new"),
         ask.write(OTHER, file, b"x", 1 << 60), ask.setattr(OTHER, file, size=1 << 60),
@@ -588,7 +595,8 @@ def everywhere_in_a_file(ask):
     for given, owner, group, other in (
         ({"mode": 0o600}, (OK, OK), (ACCES, ACCES), (ACCES, ACCES)), ({"mode": 0o642}, (OK, OK), (OK, ACCES), (ACCES, OK)),
         ({"gid": 300}, (OK, OK), (ACCES, OK), (OK, ACCES)), ({"uid": 1004}, (ACCES, OK), (ACCES, OK), (OK, OK)),
-        ({"mode": 0o111}, (OK, ACCES), (OK, ACCES), (OK, OK)), ({"uid": UID, "gid": GID, "mode": 0}, (OK, OK), (ACCES, ACCES), (ACCES, ACCES)),
+        ({"mode": 0o111}, (OK, ACCES), (OK, ACCES), (OK, OK)),
+        ({"uid": UID, "gid": GID, "mode": 0}, (OK, OK), (ACCES, ACCES), (ACCES, ACCES)),
     ):  # fmt: skip
         expect(ask.setattr(ROOT, node, **given), OK)
         for who, wanted in ((OWNER, owner), (GROUP, group), (OTHER, other)):
