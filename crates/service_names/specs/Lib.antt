@@ -19,3 +19,4 @@ pub use Rattle.filer_state.specs.changes.NodesMade
 pub use Rattle.filer_state.specs.changes.NodesDropped
 pub use Rattle.filer_state.specs.changes.NodesMoved
 pub use Rattle.filer_state.specs.changes.NodesSized
+pub mod Shaping

@@ -2,14 +2,16 @@
 
 ghost use Rattle.std.specs.Prelude.{◌≡◌, ◌-◌, length, is_some, map, IsSome};
 ghost use Rattle.std.specs.FinMap.{get};
+ghost use Rattle.std.specs.Option.{option_map};
 ghost use Rattle.parcels.specs.Filled.{logical_alike};
 ghost use Rattle.nfs_model.specs.volume.Ranges.{dead_marked};
 ghost use Rattle.nfs_model.specs.volume.Stripes.{cut, file_card_set, numbers_freed};
 ghost use Rattle.nfs_values.specs.Ownership.{ownership_of};
-ghost use Rattle.filer_state.specs.changes.NodesSized.{all_freed, stripe_sized};
+ghost use Rattle.filer_state.specs.changes.NodesSized.{all_freed};
 ghost use Rattle.filer_state.specs.state.Sets.{logical_before, logical_after, stripe_value};
 ghost use Rattle.stripes.specs.Numbers.{numbers};
 ghost use Rattle.service_names.specs.Changing.{AreNumbers, MayBeSet, with_dead};
+ghost use Rattle.service_names.specs.Shaping.{stripe_shaped};
 
 use filer_state::{Files, LogicalParcel};
 use nfs_values::{BlockNumber, Fileid, Ownership};
@@ -22,13 +24,14 @@ use vbn_ranges::DeadBlocks;
 /// numbers come into use again: to give it back takes longer than all the rest of a cut.
 const MANY_BLOCKS: u32 = 1024;
 
-/// Sets a file to a size and an owner in the stripes of its volume; its blocks past it are dead
-/// then. Of so many filled blocks it tells how many are left. It needs no memory.
+/// Sets a file to a size in the stripes of its volume; its blocks past it are dead then. Its cards
+/// show the size and an owner, where that is given, and else stay. Of so many filled blocks it
+/// tells how many are left. It needs no memory.
 pub(crate) fn size_stripes(
     held: &mut LogicalHeld<Files>,
     fileid: Fileid,
     size: u64,
-    owner: Ownership,
+    owner: Option<Ownership>,
     filled: u32,
 ) -> u32
     requires { MayBeSet fileid.0 (logical_before held.old) }
@@ -37,7 +40,7 @@ pub(crate) fn size_stripes(
     ensures own { held.new.own ≡ with_dead
         (all_freed fileid.0 size (logical_before held.old).stripes) held.old.own }
     ensures sized { (logical_after held.old held.new).stripes
-        ≡ map (stripe_sized fileid.0 size (ownership_of owner)) (logical_before held.old).stripes }
+        ≡ map (stripe_shaped fileid.0 size (option_map ownership_of owner)) (logical_before held.old).stripes }
     ensures alike { logical_alike held.old held.new }
 {
     let memory = if filled > MANY_BLOCKS {
@@ -64,14 +67,13 @@ pub(crate) fn size_stripes(
     rest
 }
 
-/// Sets a file to a size and an owner in the stripe in a place; no block leaves it where there is no
-/// stripe.
+/// Sets a file to a size in the stripe in a place; no block leaves it where there is no stripe.
 fn size_place(
     place: &mut Option<StripeHeld<Files>>,
     own: &mut LogicalParcel,
     fileid: Fileid,
     size: u64,
-    owner: Ownership,
+    owner: Option<Ownership>,
     filled: u32,
     memory: GiveBack,
     freed: &mut FreedBlocks,
@@ -84,7 +86,7 @@ fn size_place(
     ensures own { own.new
         ≡ with_dead (numbers_freed fileid.0 size (stripe_value place.old)) own.old }
     ensures sized { stripe_value place.new
-        ≡ stripe_sized fileid.0 size (ownership_of owner) (stripe_value place.old) }
+        ≡ stripe_shaped fileid.0 size (option_map ownership_of owner) (stripe_value place.old) }
     ensures alike { is_some place.new ≡ is_some place.old }
 {
     match place {
@@ -105,13 +107,13 @@ fn size_place(
     }
 }
 
-/// Sets a file to a size and an owner in a stripe.
+/// Sets a file to a size in a stripe.
 fn size_stripe(
     stripe: &mut Stripe,
     dead: &mut DeadBlocks,
     fileid: Fileid,
     size: u64,
-    owner: Ownership,
+    owner: Option<Ownership>,
     filled: u32,
     memory: GiveBack,
     freed: &mut FreedBlocks,
@@ -121,11 +123,13 @@ fn size_stripe(
         (numbers_freed fileid.0 size stripe.old) }
     ensures left { result ≡ filled - length (numbers_freed fileid.0 size stripe.old) }
     ensures dead { dead.new ≡ dead_marked (numbers_freed fileid.0 size stripe.old) dead.old }
-    ensures sized { stripe.new ≡ stripe_sized fileid.0 size (ownership_of owner) stripe.old }
+    ensures sized { stripe.new ≡ stripe_shaped fileid.0 size (option_map ownership_of owner) stripe.old }
 {
     stripe.take_touch(fileid);
     let left = cut_stripe(stripe, dead, fileid, size, filled, memory, freed);
-    put_there(stripe, fileid, size, owner);
+    if let Some(owner) = owner {
+        put_there(stripe, fileid, size, owner);
+    }
     left
 }
 
