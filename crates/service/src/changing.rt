@@ -118,7 +118,9 @@ pub(crate) fn create_here(
     if let Some(status) = creating_refusal(held, fileid, name, mode, caller) {
         return Outcome::Replied(Reply::Success(Answer::Create(Err(status))));
     }
-    outcome_created(create(run.alloc, held, volume, fileid, name, mode, caller, run.moment))
+    outcome_created(create(
+        run.alloc, held, volume, fileid, name, mode, caller, run.moment,
+    ))
 }
 
 /// Runs a MKDIR.
@@ -144,7 +146,9 @@ pub(crate) fn make_directory_here(
     if let Some(status) = making_refusal(held, fileid, name, caller) {
         return Outcome::Replied(Reply::Success(Answer::MakeDirectory(Err(status))));
     }
-    let made = make_directory(run.alloc, held, volume, fileid, name, set, caller, run.moment);
+    let made = make_directory(
+        run.alloc, held, volume, fileid, name, set, caller, run.moment,
+    );
     outcome_directory_made(made)
 }
 
