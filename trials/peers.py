@@ -26,10 +26,8 @@ def hold(is_so, what):
         raise Differs(what)
 
 
-# Whoever may connect to `export` may do everything, as it is for most trials.
-OPEN = ("--no-permission-checks",)
-# So too, with the volumes that it has where a trial names no others: of 64 MiB, with files as large.
-SMALL = ("--ranges", "16", *OPEN)
+# The volumes of `export` where a trial names no others: of 64 MiB, with files as large.
+SMALL = ("--ranges", "16")
 
 
 class Server:

@@ -1,6 +1,5 @@
 //! What `filer export` is asked for, and what it counts and tells.
 
-mod callers;
 mod counting;
 mod events;
 mod lines;

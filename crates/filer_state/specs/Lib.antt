@@ -8,4 +8,3 @@ pub mod names
 pub mod changes
 pub mod totals
 pub mod bytes
-pub mod permissions

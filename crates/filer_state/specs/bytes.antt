@@ -5,6 +5,4 @@ pub mod WritingLaws
 pub mod Extending
 pub mod WritingUp
 pub mod WritingUpLaws
-pub mod Permitted
-pub mod PermittedLaws
 pub mod lemmas

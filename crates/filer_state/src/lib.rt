@@ -17,7 +17,6 @@ mod logical;
 pub mod names;
 pub mod nodes;
 mod opening;
-pub mod permissions;
 mod range;
 pub mod state;
 mod stripe;

@@ -54,8 +54,6 @@ fn decode(
                 credential,
                 xid,
                 peer: PeerAddress::NONE,
-                is_checked: false,
-                reads_only: false,
             },
         },
         Err(Bad::Fault(_fault)) => Request::Refused(Refusal::GarbageArguments),

@@ -1,4 +1,3 @@
 pub mod Networks
 pub mod Peers
-pub mod Standings
 pub mod Asked

@@ -4,4 +4,3 @@ mod Handed
 mod InHand
 mod Once
 mod Remembered
-mod Allowed

@@ -70,10 +70,7 @@ fn run_on_bytes(
             handle: _,
             offset,
             count,
-        } => {
-            let told = read_in_stripe(run.alloc, held, run.caller, fileid, *offset, *count);
-            outcome_read(told)
-        }
+        } => outcome_read(read_in_stripe(run.alloc, held, fileid, *offset, *count)),
         Call::Write {
             handle: _,
             offset,
@@ -81,8 +78,7 @@ fn run_on_bytes(
             bytes,
         } => {
             let written = bytes.as_slice();
-            let (caller, moment) = (run.caller, run.moment);
-            let told = write_in_stripe(held, caller, fileid, *offset, *count, written, moment);
+            let told = write_in_stripe(held, fileid, *offset, *count, written, run.moment);
             outcome_written_in_stripe(volume, told)
         }
         _ => Outcome::Moved(CallNode::Logical(volume.0)),

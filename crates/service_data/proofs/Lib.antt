@@ -8,7 +8,6 @@ mod Stocked
 mod Told
 mod Written
 mod WrittenUp
-mod Cleared
 mod Parted
 mod Drained
 mod Dealt

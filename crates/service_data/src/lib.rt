@@ -6,10 +6,8 @@ mod extending;
 mod extension;
 mod holes;
 mod homes;
-mod owners;
 mod parts;
 mod reading;
-mod set_ids;
 mod spans;
 mod writing;
 

@@ -1,6 +1,5 @@
 mod Latest
 mod Taking
-mod Settling
 mod Freed
 mod Sized
 mod Carded
@@ -23,4 +22,3 @@ mod News
 mod Made
 mod Objects
 mod Mounted
-mod Refused

@@ -5,7 +5,6 @@
 mod access;
 mod ahead;
 mod as_directory;
-mod asking;
 mod attributes;
 mod cards;
 mod child;
@@ -24,8 +23,6 @@ mod naming;
 mod new_inodes;
 mod node;
 mod parent;
-mod protection;
-pub mod refusing;
 pub mod removing;
 pub mod setting;
 mod showing;

@@ -19,7 +19,6 @@ ghost use Rattle.std.specs.Prelude.{
 ghost use Rattle.std.specs.FinMap.{get, len};
 ghost use Rattle.nfs_values.specs.Answer.{node_made as made_told};
 ghost use Rattle.nfs_values.specs.Moment.{moment_of};
-ghost use Rattle.nfs_values.specs.Ownership.{ownership_of};
 ghost use Rattle.parcels.specs.Filled.{logical_alike};
 ghost use Rattle.inodes.specs.Inode.{inode_value, kind_value};
 ghost use Rattle.nfs_model.specs.volume.Directories.{added, found};
@@ -55,7 +54,7 @@ use directories::Directory;
 use filer_state::Files;
 use inodes::{Created, Inode, InodeKind, StoredAttributes};
 use nfs_values::answer::MakeResults;
-use nfs_values::{FileHandle, Fileid, Name, Named, Ownership};
+use nfs_values::{FileHandle, Fileid, Name, Named};
 use parcels::LogicalHeld;
 use std::alloc::{AllocError, Global};
 
@@ -112,8 +111,7 @@ fn make_node(
     let name = Name::copied(alloc, name)?;
     let created = create_inode(held, made)?;
     let fileid = created.fileid();
-    let owner = made.attributes.ownership();
-    match tie(alloc, held, parent.fileid, name, fileid, owner, made.kind) {
+    match tie(alloc, held, parent.fileid, name, fileid, made.kind) {
         Ok(()) => {
             set_directory(held, parent, made.kind);
             Ok(created.keep())
@@ -146,7 +144,6 @@ fn tie(
     directory: Fileid,
     name: Name,
     fileid: Fileid,
-    owner: Ownership,
     kind: InodeKind,
 ) -> Result<(), AllocError>
     requires few { held.old.own.stripes ≤ 16 }
@@ -157,8 +154,7 @@ fn tie(
     ensures own { OnOk result (held.new.own ≡ with_directories
         (changed_at (added name fileid.0) directory.0
         (directories_made (kind_value kind) fileid.0 held.old.own.directories)) held.old.own) }
-    ensures cards { OnOk result (InFirst
-        (HasCard (ownership_of owner) (kind_value kind) fileid.0)
+    ensures cards { OnOk result (InFirst (HasCard (kind_value kind) fileid.0)
         held.old.own.stripes held.old.stripes.at held.new.stripes.at) }
     ensures others { InFirst (DiffersByCard fileid.0) held.old.own.stripes
         held.old.stripes.at held.new.stripes.at }
@@ -166,7 +162,7 @@ fn tie(
         ≡ without_directory fileid.0 held.old.own) }
 {
     put_directory(alloc, held, fileid, kind)?;
-    put_cards(held, fileid, owner, kind)?;
+    put_cards(held, fileid, kind)?;
     add_entry(held, directory, name, fileid)
 }
 

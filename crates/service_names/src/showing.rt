@@ -79,7 +79,7 @@ fn shown_empty(volume: VolumeNumber, fileid: Fileid, now: StoredAttributes) -> A
 {
     Attributes {
         kind: FileKind::Regular,
-        mode: u32::from(now.mode),
+        mode: now.mode,
         links: 1,
         uid: now.uid,
         gid: now.gid,

@@ -5,7 +5,6 @@ mod card;
 mod cards;
 mod chunk;
 mod counts;
-mod owner;
 mod packed;
 
 pub use card::{Card, CardKind};

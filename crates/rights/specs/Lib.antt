@@ -1,4 +1,0 @@
-pub mod Protection
-pub mod Refusing
-pub mod Setting
-pub mod Making
