@@ -13,7 +13,7 @@ from pathlib import Path
 from statistics import median
 
 import wire
-from peers import Differs, Server, connect, hold, write_arguments
+from peers import OPEN, Differs, Server, connect, hold, write_arguments
 from results import CREATE, FSSTAT, GETATTR, LOOKUP, MKDIR, OK, READ, READDIR, REMOVE, SETATTR
 from results import WRITE
 from wire import NFS, Files, Reader
@@ -101,7 +101,7 @@ class Client:
     """A server of one large volume, and connections to it."""
 
     def __init__(self, filer, *options):
-        self.server = Server(filer, None, 2, "export", options)
+        self.server = Server(filer, None, 2, "export", (*options, *OPEN))
         self.files = Files(self.server.service.verifier)
         self.peers = [Peer(self.server.address) for _ in range(PEERS)]
 

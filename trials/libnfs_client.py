@@ -51,7 +51,7 @@ class Mounted:
     """An export, mounted by the library. A call that fails raises OSError with the number of the
     error."""
 
-    def __init__(self, port, export):
+    def __init__(self, port, export, user=None):
         found = ctypes.util.find_library("nfs")
         if not found:
             raise Unavailable("libnfs isn't there")
@@ -60,9 +60,9 @@ class Mounted:
             getattr(self.library, name).restype = ctypes.c_void_p
         self.library.nfs_get_error.restype = ctypes.c_char_p
         self.context = ctypes.c_void_p(self.library.nfs_init_context())
-        # the ports are set by what stands behind the address
+        # the ports and the user are set by what stands behind the address
         url = ctypes.c_void_p(
-            self.library.nfs_parse_url_dir(self.context, url_of(port, export).encode())
+            self.library.nfs_parse_url_dir(self.context, url_of(port, export, user).encode())
         )
         self.library.nfs_destroy_url(url)
         self.call("mount", "127.0.0.1", export)
@@ -115,8 +115,10 @@ class Mounted:
         self.library.nfs_destroy_context(self.context)
 
 
-def url_of(port, path):
-    return f"nfs://127.0.0.1{path}?nfsport={port}&mountport={port}&version=3"
+def url_of(port, path, user=None):
+    """The address of a path, asked by the own user or by another: its uid and gid."""
+    of_user = "" if user is None else "&uid=%d&gid=%d" % user
+    return f"nfs://127.0.0.1{path}?nfsport={port}&mountport={port}&version=3{of_user}"
 
 
 def program(name, *arguments):
@@ -287,6 +289,64 @@ def all_names_are_listed(port, folder):
     volume.end()
 
 
+def made_by(volume, path, data):
+    file = volume.open(path, os.O_CREAT | os.O_RDWR)
+    volume.write(file, 0, data)
+    volume.call("close", file)
+
+
+def read_by(volume, path):
+    file = volume.open(path, os.O_RDONLY)
+    data = volume.read(file, 0, 100)
+    volume.call("close", file)
+    return data
+
+
+def users_are_told_apart(port, folder):
+    """By `uid` and `gid` of an address: a file's owner, one of its group, and another. The root has mode 1777."""
+    owner, member, other = (Mounted(port, "/vol0", user) for user in ((1000, 100), (1001, 100), (1002, 300)))
+    owner.call("mkdir", "/its")
+    made_by(owner, "/its/file", b"its bytes")
+    told = owner.attributes("/its/file")
+    expect((told.uid, told.gid), (1000, 100))
+    owner.call("chmod", "/its/file", 0o640)
+    expect((read_by(owner, "/its/file"), read_by(member, "/its/file")), (b"its bytes", b"its bytes"))
+    refused(errno.EACCES, read_by, other, "/its/file")
+    for volume in (member, other):
+        refused(errno.EACCES, volume.open, "/its/file", os.O_RDWR)
+        refused(errno.EACCES, volume.call, "truncate", "/its/file", ctypes.c_uint64(0))
+        refused(errno.EACCES, volume.call, "unlink", "/its/file")
+        refused(errno.EACCES, volume.call, "mkdir", "/its/new")
+        refused(errno.EACCES, volume.call, "rename", "/its/file", "/moved")
+        refused(errno.EPERM, volume.call, "chmod", "/its/file", 0o666)
+        refused(errno.EPERM, volume.call, "chown", "/its/file", 1001, 100)
+        # the root is sticky
+        refused(errno.EACCES, volume.call, "rename", "/its", "/theirs")
+        refused(errno.EACCES, volume.call, "rmdir", "/its")
+    refused(errno.EPERM, owner.call, "chown", "/its/file", 1001, 100)
+    owner.call("chmod", "/its", 0o700)
+    refused(errno.EACCES, member.attributes, "/its/file")
+    refused(errno.EACCES, member.names, "/its")
+    for volume in (owner, member, other):
+        volume.end()
+
+
+def programs_ask_as_users(port, folder):
+    expect(program("nfs-cat", url_of(port, "/vol0/its/file", (1000, 100))), b"its bytes")
+    for user in ((1001, 100), (1002, 300)):
+        try:
+            program("nfs-cat", url_of(port, "/vol0/its/file", user))
+        except Wrong:
+            continue
+        raise Wrong(f"nfs-cat as {user} isn't refused")
+    root = Mounted(port, "/vol0", (0, 0))
+    expect(read_by(root, "/its/file"), b"its bytes")
+    root.call("unlink", "/its/file")
+    root.call("rmdir", "/its")
+    expect(root.names("/"), [".", "..", "copied", "shadowed"])
+    root.end()
+
+
 CHECKS = (
     programs_copy_list_and_read,
     the_root_is_the_first_volume,
@@ -298,6 +358,8 @@ CHECKS = (
     bytes_are_kept,
     attributes_are_set,
     all_names_are_listed,
+    users_are_told_apart,
+    programs_ask_as_users,
 )
 
 

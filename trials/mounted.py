@@ -8,9 +8,9 @@ from wire import MOUNT, hyper, opaque, words
 # What no file has a room for in the call itself.
 LONG_NAME, LONG_PATH = "n" * 250, "/" + "p" * 1000
 ALL_BITS = 0x3F
-# FSINFO and PATHCONF behind the attributes.
+# FSINFO and PATHCONF behind the attributes, where callers are checked.
 INFO = words(65536, 65536, 4096, 65536, 65536, 4096, 65536) + hyper(1 << 26) + words(0, 1, 24)
-CONFIGURATION = words(1, 255, 1, 0, 0, 1)
+CONFIGURATION = words(1, 255, 1, 1, 0, 1)
 
 
 def mount_root(files):

@@ -26,8 +26,10 @@ def hold(is_so, what):
         raise Differs(what)
 
 
-# The volumes of `export` where a trial names no others: of 64 MiB, with files as large.
-SMALL = ("--ranges", "16")
+# Whoever may connect to `export` may do everything, as it is for most trials.
+OPEN = ("--no-permission-checks",)
+# So too, with the volumes that it has where a trial names no others: of 64 MiB, with files as large.
+SMALL = ("--ranges", "16", *OPEN)
 
 
 class Server:

@@ -4,7 +4,7 @@ all of its replies are one."""
 import random
 import socket
 
-from peers import Client, Differs, Server, compare, hold, read_all, records_of, reset
+from peers import SMALL, Client, Differs, Server, compare, hold, read_all, records_of, reset
 from plain import Call, Stream
 from repeats import ANN, NAMES, OK, Caller, Place, entries_of, record, status_of, take, to_set
 from results import CREATE, MKDIR, REMOVE, RENAME, RMDIR
@@ -13,7 +13,7 @@ from xdr import opaque, words
 # Of each process some places of a volume are its own, where replies are remembered: these for its calls, and as many more for those by
 # which it makes what they need.
 PLACES, OWN = 65_536, 2500
-OPTIONS = ("--ranges", "16", "--remember", str(PLACES))
+OPTIONS = (*SMALL, "--remember", str(PLACES))
 # How many rounds of some calls a process makes on connections that are cut at random.
 ROUNDS, MOST_AT_ONCE = 60, 8
 

@@ -38,6 +38,9 @@ class Nobody:
     def credential(self):
         return words(0, 0)
 
+    def __repr__(self):
+        return "nobody"
+
 
 ANN = User(1000, 100, (10, 20))
 

@@ -39,7 +39,7 @@ MOST_INODES = 65536
 
 # What `export` tells people as it starts, and then of connections and calls.
 TOLD = re.compile(
-    rb"(exported: [^\n]+\n)*(may connect: [^\n]+\n)?(mount [^\n]+\n)*"
+    rb"(exported: [^\n]+\n)*(may connect: [^\n]+\n)?(callers: [^\n]+\n)?(roots: [^\n]+\n)?(mount [^\n]+\n)*"
     rb"((connection \d+ (opened|closed)|can't be served|can't be accepted|refused): [^\n]+\n"
     rb"|(out of memory for calls|lines that were left out): \d+\n|calls \d+[:;] [^\n]+\n)*"
 )
@@ -51,7 +51,8 @@ class Way(namedtuple("Way", "command options blocks owner")):
 
 
 SERVE = Way("serve", [], 4096, Owner)
-EXPORT = Way("export", ["--log", "--stats", "1", "--ranges", "16"], 16384, MountedOwner)
+# callers are checked, so that refusals are met there too
+EXPORT = Way("export", ["--log", "--stats", "1", "--ranges", "16", "--root-mode", "1777"], 16384, MountedOwner)
 
 
 class Server:

@@ -4,17 +4,18 @@ import subprocess
 import threading
 import time
 
-from peers import Client, Differs, Server, export_at, hold
+from peers import OPEN, Client, Differs, Server, export_at, hold
 
 # How long a line may take, in seconds.
 SOON = 20
 
 
 class Told(Server):
-    """`filer export` with options; `reads` says whether its standard error is read at all from
-    the start on."""
+    """`filer export` with options, of callers that aren't checked; `reads` says whether its
+    standard error is read at all from the start on."""
 
     def __init__(self, filer, *options, reads=True, environment=None):
+        options = options if OPEN[0] in options else (*OPEN, *options)
         words = [filer, "export", "--listen", "127.0.0.1:0", "--workers", "2", *options]
         self.process = subprocess.Popen(
             words, stdout=subprocess.PIPE, stderr=subprocess.PIPE, env=environment, text=True

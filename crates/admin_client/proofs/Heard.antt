@@ -1,5 +1,5 @@
 -- What a server hears of a call.
-use Rattle.std.proofs.Common.{◌≡◌, ℕ, ◌^◌, ◌<◌, Bool, true, ◌&&◌, eqb, List, [], Some, Ok, refl, ap, ◌∙◌, arith, inl}
+use Rattle.std.proofs.Common.{◌≡◌, ℕ, ◌^◌, ◌<◌, Bool, true, ◌&&◌, eqb, List, [], Some, Ok, refl, ap, ◌∙◌, arith, inl, inr}
 use Rattle.std.proofs.lemmas.List.Folds.{list_any_at}
 use Rattle.xdr.specs.Shape.{Fits, spelling}
 use Rattle.nfs_model.specs.Types as model
@@ -14,14 +14,16 @@ use Rattle.rpc_msg.specs.declared.handle_form.HandleForm.TheVariants.{Plain, OfR
 use Rattle.rpc_msg.specs.declared.offer.Offer.{Offer}
 use Rattle.rpc_msg.specs.Offer.{form_of, offers, offers_program}
 use Rattle.rpc_msg.specs.Replies.{auth_shape, no_verifier}
-use Rattle.rpc_msg.specs.Heads.{Call, head_by, nobody, version_by}
-use Rattle.rpc_msg.specs.Calls.{IsCallBy, call_shape, call_value}
+use Rattle.rpc_msg.specs.Heads.{Call, auth_sys_shape, head_by, version_by}
+use Rattle.rpc_msg.specs.Calls.{ActsFor, IsCallBy, call_shape, call_value}
 use Rattle.rpc_msg.specs.Handles.{call_heard}
 use Rattle.rpc_msg.specs.Records.{caller_by, heard_from}
 use Rattle.rpc_msg.specs.Hearing.{AsksForBy}
 use Rattle.admin_client.specs.declared.call.AdminCall.{AdminCall}
 use Rattle.admin_client.specs.declared.call.AdminCall.TheVariants.{Census, Grow, Stop}
-use Rattle.admin_client.specs.Asking.{arguments_of, call_bytes, model_call, procedure_of, CallFits}
+use Rattle.admin_client.specs.declared.call.AdminUser.{AdminUser}
+use Rattle.admin_client.specs.declared.call.AdminUser.TheVariants.{Nobody, Of}
+use Rattle.admin_client.specs.Asking.{acting_for, arguments_of, call_bytes, credential_of, model_call, procedure_of, user_value, CallFits, UserFits}
 
 -- that a call's spelling is found again, as `rpc_msg` has it
 abbrev pub FoundAgain : Type 0
@@ -50,41 +52,54 @@ stop_offered offer e =
 verifier_fits : Fits auth_shape no_verifier
 verifier_fits = (omega arith, (omega arith, omega arith))
 
-call_fits : (xid number : ℕ) → xid < 2 ^ 32 → number < 4 → Fits call_shape (call_value xid (536870913, number) 1 no_verifier no_verifier)
-call_fits xid number small few =
-    (small, (omega arith, (omega arith, (omega arith, (omega arith, (omega arith, (verifier_fits, verifier_fits)))))))
+-- its body has 20 bytes
+user_fits : (uid gid : ℕ) → uid < 2 ^ 32 → gid < 2 ^ 32 → Fits auth_sys_shape (user_value uid gid)
+user_fits uid gid u g = (omega arith, ((omega arith, omega arith), (u, (g, (omega arith, omega arith, tt)))))
+
+credential_fits : (user : AdminUser) → Fits auth_shape (credential_of user)
+credential_fits Nobody = verifier_fits
+credential_fits (Of uid gid) = (omega arith, (omega arith, omega arith))
+
+acts : (user : AdminUser) → UserFits user → ActsFor (credential_of user) (acting_for user)
+acts Nobody fits = inl (refl, refl)
+acts (Of uid gid) fits = inr (refl, (user_value uid gid, (user_fits uid gid fits.0 fits.1, refl), refl))
+
+call_fits : (xid number : ℕ) (user : AdminUser) → xid < 2 ^ 32 → number < 4
+    → Fits call_shape (call_value xid (536870913, number) 1 (credential_of user) no_verifier)
+call_fits xid number user small few =
+    (small, (omega arith, (omega arith, (omega arith, (omega arith, (omega arith, (credential_fits user, verifier_fits)))))))
 
 -- it is spelled as a call that is offered
-is_call : (offer : Offer) (xid : ℕ) (call : AdminCall) → xid < 2 ^ 32 → offers offer (procedure_of call) ≡ true
-    → IsCallBy offer (call_bytes xid call) xid (procedure_of call) nobody (arguments_of call)
-is_call offer xid Census small e = record {
+is_call : (offer : Offer) (xid : ℕ) (user : AdminUser) (call : AdminCall) → xid < 2 ^ 32 → UserFits user → offers offer (procedure_of call) ≡ true
+    → IsCallBy offer (call_bytes xid user call) xid (procedure_of call) (acting_for user) (arguments_of call)
+is_call offer xid user Census small own e = record {
   version = 1;
-  cred = no_verifier;
+  cred = credential_of user;
   verf = no_verifier;
   offered = e;
   version_is = census_offered offer e;
-  acts_for = inl (refl, refl);
-  fits = call_fits xid 1 small (omega arith);
+  acts_for = acts user own;
+  fits = call_fits xid 1 user small (omega arith);
   bytes_are = refl;
 }
-is_call offer xid (Grow volume ranges) small e = record {
+is_call offer xid user (Grow volume ranges) small own e = record {
   version = 1;
-  cred = no_verifier;
+  cred = credential_of user;
   verf = no_verifier;
   offered = e;
   version_is = grow_offered offer e;
-  acts_for = inl (refl, refl);
-  fits = call_fits xid 2 small (omega arith);
+  acts_for = acts user own;
+  fits = call_fits xid 2 user small (omega arith);
   bytes_are = refl;
 }
-is_call offer xid Stop small e = record {
+is_call offer xid user Stop small own e = record {
   version = 1;
-  cred = no_verifier;
+  cred = credential_of user;
   verf = no_verifier;
   offered = e;
   version_is = stop_offered offer e;
-  acts_for = inl (refl, refl);
-  fits = call_fits xid 3 small (omega arith);
+  acts_for = acts user own;
+  fits = call_fits xid 3 user small (omega arith);
   bytes_are = refl;
 }
 
@@ -101,11 +116,13 @@ call_same (OfRun run) Census = refl
 call_same (OfRun run) (Grow volume ranges) = refl
 call_same (OfRun run) Stop = refl
 
-abbrev heard_as : ℕ → model.Call → Heard
-heard_as xid call = record { xid = xid; asked = model.Ask call (caller_by xid nobody) }
+abbrev heard_as : ℕ → AdminUser → model.Call → Heard
+heard_as xid user call = record { xid = xid; asked = model.Ask call (caller_by xid (acting_for user)) }
 
-pub call_is_heard : FoundAgain → (offer : Offer) (xid : ℕ) (call : AdminCall) → xid < 2 ^ 32 → CallFits call
-    → offers offer (procedure_of call) ≡ true → AsksForBy offer (call_bytes xid call) xid (model_call call) (caller_by xid nobody)
-call_is_heard again offer xid call small fits e =
-    ap (heard_from (form_of offer)) (again offer (call_bytes xid call) xid (procedure_of call) nobody (arguments_of call) (is_call offer xid call small e))
-    ∙ rw (arguments_asked call fits) (ap (λ (c : model.Call). Ok (heard_as xid c)) (call_same (form_of offer) call))
+pub call_is_heard : FoundAgain → (offer : Offer) (xid : ℕ) (user : AdminUser) (call : AdminCall) → xid < 2 ^ 32 → UserFits user → CallFits call
+    → offers offer (procedure_of call) ≡ true
+    → AsksForBy offer (call_bytes xid user call) xid (model_call call) (caller_by xid (acting_for user))
+call_is_heard again offer xid user call small own fits e =
+    ap (heard_from (form_of offer)) (again offer (call_bytes xid user call) xid (procedure_of call) (acting_for user) (arguments_of call)
+    (is_call offer xid user call small own e))
+    ∙ rw (arguments_asked call fits) (ap (λ (c : model.Call). Ok (heard_as xid user c)) (call_same (form_of offer) call))

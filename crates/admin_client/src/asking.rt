@@ -10,7 +10,7 @@ ghost use Rattle.admin_client.specs.Telling.{stopped_value};
 ghost use Rattle.xdr.specs.Shape.{Void};
 ghost use Rattle.admin_client.specs.Over.{TellsOver};
 
-use crate::call::{AdminCall, call_record};
+use crate::call::{AdminCall, AdminUser, call_record};
 use crate::fault::AdminFault;
 use crate::growth::Growth;
 use crate::incoming::next_record;
@@ -23,17 +23,18 @@ use std::io::{Read, Write};
 /// The xid of a call. Its reply is the first record that comes behind it.
 const XID: u32 = 1;
 
-/// Sends a call, and waits for the record of its reply.
+/// Sends a call of a user, and waits for the record of its reply.
 fn ask<S: Read + Write>(
     stream: &mut S,
     alloc: Global,
+    user: AdminUser,
     call: AdminCall,
 ) -> Result<Vec<u8>, AdminFault>
     ensures reply { IfOk result (λ reply. HasReply S.contents S.remaining stream.old
-        (fragment true (call_bytes XID call)) reply.items) }
+        (fragment true (call_bytes XID user call)) reply.items) }
     ensures faults { IfErr result IsOfStream }
 {
-    let message = call_record(alloc, XID, call)?;
+    let message = call_record(alloc, XID, user, call)?;
     match stream.write_all(&message) {
         Ok(()) => next_record(alloc, stream),
         Err(error) => Err(AdminFault::of_stream(&error)),
@@ -45,33 +46,38 @@ fn ask<S: Read + Write>(
 pub fn census<S: Read + Write>(stream: &mut S, alloc: Global) -> Result<Census, AdminFault>
     ensures { TellsOver census_shape census_value XID
         (HasReply S.contents S.remaining stream.old
-        (fragment true (call_bytes XID AdminCall.Census))) result }
+        (fragment true (call_bytes XID AdminUser.Nobody AdminCall.Census))) result }
 {
-    let reply = ask(stream, alloc, AdminCall::Census)?;
+    let reply = ask(stream, alloc, AdminUser::Nobody, AdminCall::Census)?;
     read_census(alloc, XID, &reply)
 }
 
-/// Asks a server over a connected stream for this many more ranges for a volume.
+/// Asks a server over a connected stream, as a user, for this many more ranges for a volume.
 pub fn grow<S: Read + Write>(
     stream: &mut S,
     alloc: Global,
+    user: AdminUser,
     volume: VolumeNumber,
     ranges: u32,
 ) -> Result<Growth, AdminFault>
     ensures { TellsOver growth_shape growth_value XID
         (HasReply S.contents S.remaining stream.old
-        (fragment true (call_bytes XID (AdminCall.Grow volume ranges)))) result }
+        (fragment true (call_bytes XID user (AdminCall.Grow volume ranges)))) result }
 {
-    let reply = ask(stream, alloc, AdminCall::Grow { volume, ranges })?;
+    let reply = ask(stream, alloc, user, AdminCall::Grow { volume, ranges })?;
     read_growth(XID, &reply)
 }
 
-/// Asks a server over a connected stream to stop.
-pub fn stop<S: Read + Write>(stream: &mut S, alloc: Global) -> Result<(), AdminFault>
+/// Asks a server over a connected stream, as a user, to stop.
+pub fn stop<S: Read + Write>(
+    stream: &mut S,
+    alloc: Global,
+    user: AdminUser,
+) -> Result<(), AdminFault>
     ensures { TellsOver Void stopped_value XID
         (HasReply S.contents S.remaining stream.old
-        (fragment true (call_bytes XID AdminCall.Stop))) result }
+        (fragment true (call_bytes XID user AdminCall.Stop))) result }
 {
-    let reply = ask(stream, alloc, AdminCall::Stop)?;
+    let reply = ask(stream, alloc, user, AdminCall::Stop)?;
     read_stop(XID, &reply)
 }

@@ -6,28 +6,31 @@ ghost use Rattle.nfs_model.specs.Types as model;
 ghost use Rattle.nfs_types.specs.Results.{census_shape, count_value};
 ghost use Rattle.rpc_msg.specs.declared.offer.Offer.{Offer};
 ghost use Rattle.rpc_msg.specs.Offer.{offers};
-ghost use Rattle.rpc_msg.specs.Heads.{nobody};
 ghost use Rattle.rpc_msg.specs.Hearing.{AreBytes, AsksForBy};
 ghost use Rattle.rpc_msg.specs.Records.{caller_by};
 ghost use Rattle.rpc_msg.specs.Replies.{auth_shape, reply_bytes};
 ghost use Rattle.admin_client.specs.declared.call.AdminCall.{AdminCall};
+ghost use Rattle.admin_client.specs.declared.call.AdminUser.{AdminUser};
 ghost use Rattle.admin_client.specs.declared.fault.AdminFault.TheVariants.{Refused};
 ghost use Rattle.admin_client.specs.declared.growth.Growth.{Growth};
 ghost use Rattle.admin_client.specs.declared.refusal.CallRefusal.{CallRefusal};
-ghost use Rattle.admin_client.specs.Asking.{CallFits, call_bytes, model_call, procedure_of};
+ghost use Rattle.admin_client.specs.Asking.{CallFits, UserFits, acting_for, call_bytes};
+ghost use Rattle.admin_client.specs.Asking.{model_call, procedure_of};
 ghost use Rattle.admin_client.specs.Telling.{RefusalFits, answer_of, growth_shape, growth_value};
 ghost use Rattle.admin_client.specs.Telling.{head_shape, refused_by, success, told_by};
 
 use rpc_msg::call_heads_are_exact;
 
-/// Every server that offers the procedure of a call hears it as that call of nobody in particular,
-/// under its xid (RFC 5531 section 9).
+/// Every server that offers the procedure of a call hears it as that call of its user, under its
+/// xid (RFC 5531 section 9).
 pub fn calls_are_heard()
-    ensures { (offer : Offer) (xid : ℕ) (call : AdminCall)
+    ensures { (offer : Offer) (xid : ℕ) (user : AdminUser) (call : AdminCall)
         → xid < 2 ^ 32
+        → UserFits user
         → CallFits call
         → offers offer (procedure_of call) ≡ true
-        → AsksForBy offer (call_bytes xid call) xid (model_call call) (caller_by xid nobody) }
+        → AsksForBy offer (call_bytes xid user call) xid (model_call call)
+        (caller_by xid (acting_for user)) }
 {
     call_heads_are_exact();
 }

@@ -15,7 +15,7 @@ mod reply;
 mod volumes;
 
 pub use asking::{census, grow, stop};
-pub use call::{AdminCall, call_record};
+pub use call::{AdminCall, AdminUser, call_record};
 pub use fault::AdminFault;
 pub use growth::Growth;
 pub use incoming::next_record;

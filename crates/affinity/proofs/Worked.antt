@@ -16,6 +16,7 @@ volume_on aggregate ranges stripes = record {
   inodes = 65536;
   most_steps = 9;
   begun = record { seconds = 8; nanoseconds = 7 };
+  root = record { mode = 1; uid = 2; gid = 3 };
   remembered = 6;
 }
 

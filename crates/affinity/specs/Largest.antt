@@ -1,8 +1,8 @@
 -- What a volume's layout says by its number: the size of its largest file, how many inodes and steps it has at most, when
 -- it began, and how many replies it remembers.
 use Rattle.std.specs.Prelude.{ℕ, ◌*◌, Option, Some, None, slice_get}
-use Rattle.nfs_model.specs.Types.{Moment}
-use Rattle.nfs_model.specs.Server.{start_of_times}
+use Rattle.nfs_model.specs.Types.{Moment, Ownership}
+use Rattle.nfs_model.specs.Server.{start_of_times, root_of_root}
 use Rattle.nfs_model.specs.Tree.{Layout, VolumeLayout}
 
 -- the mebibytes of the largest file of a volume, if there is one
@@ -44,6 +44,15 @@ begun_in (Some v) = v.begun
 -- the times of the root of a volume by its number
 abbrev pub begun_of : Layout → ℕ → Moment
 begun_of layout volume = begun_in (slice_get layout.volumes volume)
+
+-- who owns the root of a volume as it begins, if there is one
+abbrev pub root_in : Option VolumeLayout → Ownership
+root_in None = root_of_root
+root_in (Some v) = v.root
+
+-- who owns the root of a volume as it begins, by its number
+abbrev pub root_of : Layout → ℕ → Ownership
+root_of layout volume = root_in (slice_get layout.volumes volume)
 
 -- the most replies that a volume remembers, if there is one
 abbrev pub remembered_in : Option VolumeLayout → ℕ

@@ -10,7 +10,7 @@ use crate::sizes::{check_all, with_sizes};
 use crate::specification::{
     AggregateSpec, INODES, MEBIBYTE, MIB, RANGE_BLOCKS, STEPS, STRIPES, SizedVolumeSpec, VolumeSpec,
 };
-use nfs_values::Moment;
+use nfs_values::{Moment, Ownership};
 use std::alloc::{AllocError, Global};
 
 /// The aggregates and volumes of a run, fixed for as long as it lasts.
@@ -39,8 +39,9 @@ impl Layout {
     ghost use Rattle.affinity.specs.Specification.{layout_in, spare_of, volume_sized};
     ghost use Rattle.affinity.specs.Fault.{fault_without_sizes, rule_broken};
     ghost use Rattle.affinity.specs.Largest.{begun_of, inodes_of, largest_of, mebibytes_in, remembered_of};
-    ghost use Rattle.affinity.specs.Largest.{steps_of};
+    ghost use Rattle.affinity.specs.Largest.{root_of, steps_of};
     ghost use Rattle.nfs_values.specs.Moment.{moment_of};
+    ghost use Rattle.nfs_values.specs.Ownership.{ownership_of};
     ghost use Rattle.affinity.specs.Layout.{layout_of};
 
     /// A layout of these aggregates and volumes, each with ranges of 1,024 blocks and at most
@@ -212,6 +213,16 @@ impl Layout {
         match self.volume(volume) {
             Some(specification) => specification.begun,
             None => Moment::START,
+        }
+    }
+
+    /// Who owns the root of a volume as the run begins; uid 0 for a volume that isn't there.
+    pub fn root_of(&self, volume: u32) -> Ownership
+        ensures { ownership_of result ≡ root_of (layout_of self.now) volume }
+    {
+        match self.volume(volume) {
+            Some(specification) => specification.root,
+            None => Ownership::ROOT,
         }
     }
 

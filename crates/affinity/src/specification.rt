@@ -3,7 +3,7 @@
 ghost use Rattle.std.specs.Prelude.{◌≡◌};
 ghost use Rattle.affinity.specs.Specification.{ordinary, volume_asked, volume_sized};
 
-use nfs_values::Moment;
+use nfs_values::{Moment, Ownership};
 
 /// The stripes of an ordinary volume.
 pub const STRIPES: u32 = 8;
@@ -67,6 +67,8 @@ pub struct SizedVolumeSpec {
     pub most_steps: u32,
     /// The times of its root.
     pub begun: Moment,
+    /// Who owns its root, as the run begins.
+    pub root: Ownership,
     /// How many replies are remembered at most, for calls that come again.
     pub remembered: u32,
 }
@@ -85,7 +87,7 @@ impl VolumeSpec {
     }
 
     /// The volume with ranges of 1,024 blocks, 65,536 inodes at most, as many steps of a RENAME as
-    /// there may be, a root that has the start of all times, and no reply remembered.
+    /// there may be, a root of uid 0 that has the start of all times, and no reply remembered.
     pub fn sized(self) -> SizedVolumeSpec
         ensures { volume_sized result ≡ volume_asked self }
     {
@@ -95,6 +97,7 @@ impl VolumeSpec {
             inodes: INODES,
             most_steps: STEPS,
             begun: Moment::START,
+            root: Ownership::ROOT,
             remembered: 0,
         }
     }

@@ -3,7 +3,8 @@
 
 use crate::bytes::{holds, spelled, spells};
 use admin_client::{
-    AdminCall, AdminFault, CallRefusal, call_record, census, next_record, read_census, read_growth,
+    AdminCall, AdminFault, AdminUser, CallRefusal, call_record, census, next_record, read_census,
+    read_growth,
 };
 use nfs_values::VolumeNumber;
 use std::io::{self, ErrorKind, Read, Write};
@@ -11,13 +12,14 @@ use std::mem;
 use std::process::Abort;
 use xdr::Fault;
 
-/// Calls by their xid, and their records.
-const CALLS: [(&str, u32, AdminCall, &[u32]); 2] = [
+/// Calls by their xid and user, and their records.
+const CALLS: [(&str, u32, AdminUser, AdminCall, &[u32]); 3] = [
     // one fragment of 40 bytes; the xid 7, a call, RPC version 2, program 0x20000001, version 1,
     // procedure 1, and no credential or verifier
     (
         "CENSUS",
         7,
+        AdminUser::Nobody,
         AdminCall::Census,
         &[0x8000_0028, 7, 0, 2, 0x2000_0001, 1, 1, 0, 0, 0, 0],
     ),
@@ -25,11 +27,40 @@ const CALLS: [(&str, u32, AdminCall, &[u32]); 2] = [
     (
         "GROW",
         8,
+        AdminUser::Nobody,
         AdminCall::Grow {
             volume: VolumeNumber(3),
             ranges: 5,
         },
         &[0x8000_0030, 8, 0, 2, 0x2000_0001, 1, 2, 0, 0, 0, 0, 3, 5],
+    ),
+    // procedure 3, of uid 1000 with gid 100: AUTH_SYS of 20 bytes, stamp 0, no name, no gids
+    (
+        "STOP",
+        9,
+        AdminUser::Of {
+            uid: 1_000,
+            gid: 100,
+        },
+        AdminCall::Stop,
+        &[
+            0x8000_003c,
+            9,
+            0,
+            2,
+            0x2000_0001,
+            1,
+            3,
+            1,
+            20,
+            0,
+            0,
+            1_000,
+            100,
+            0,
+            0,
+            0,
+        ],
     ),
 ];
 
@@ -206,8 +237,8 @@ fn are_none(rt: &(impl Abort + AllocGlobal), rows: &[(&str, &[u32], AdminFault)]
 
 #[test]
 fn calls_of_any_xid(rt: HostRuntime) {
-    for (row, xid, call, words) in &CALLS {
-        let record = call_record(rt.alloc(), *xid, *call).expect(&rt, "no memory");
+    for (row, xid, user, call, words) in &CALLS {
+        let record = call_record(rt.alloc(), *xid, *user, *call).expect(&rt, "no memory");
         spells(&rt, row, &record, &[words]);
         mem::forget(record);
     }

@@ -121,7 +121,7 @@ fn attributes_and_handles_are_chained(rt: HostRuntime) {
             cookie: Cookie(3),
         },
         attributes: Some(FILE),
-        handle: FileHandle::new(&[0, 0, 0, 1, 0, 0, 0, 0, 0, 0, 0, 5]),
+        handle: Some(FileHandle::new(&[0, 0, 0, 1, 0, 0, 0, 0, 0, 0, 0, 5])),
     };
     entries.push(entry).expect(&rt, "no memory");
     let page = ReadDirectoryPlusResults {
@@ -156,7 +156,7 @@ fn attributes_of_an_entry_are_left_out(rt: HostRuntime) {
             cookie: Cookie(4),
         },
         attributes: None,
-        handle: FileHandle::new(&[8]),
+        handle: Some(FileHandle::new(&[8])),
     };
     entries.push(entry).expect(&rt, "no memory");
     let page = ReadDirectoryPlusResults {
@@ -245,7 +245,10 @@ fn directories_are_told(rt: HostRuntime) {
     is_told(&rt, "ACCESS", Answer::CheckAccess(Ok(ACCESS)), &GIVEN);
     let told = Answer::FilesystemInfo(Ok(FILESYSTEM));
     is_told(&rt, "FSINFO", told, &FILESYSTEM_TOLD);
-    let told = PathConfigurationResults { object: DIRECTORY };
+    let told = PathConfigurationResults {
+        object: DIRECTORY,
+        is_chown_restricted: false,
+    };
     is_told(
         &rt,
         "PATHCONF",

@@ -1,5 +1,6 @@
 //! What `filer export` is asked for, and what it counts and tells.
 
+mod callers;
 mod counting;
 mod events;
 mod lines;

@@ -82,7 +82,7 @@ fn tell_refusal<E: Write>(err: &mut E, refusal: CallRefusal) {
         CallRefusal::SystemError => "SYSTEM_ERR, it is out of memory",
         CallRefusal::RpcMismatch { .. } => "RPC_MISMATCH, it speaks another version of RPC",
         CallRefusal::AuthError { number: TOO_WEAK } => {
-            "AUTH_TOOWEAK, only root on its machine may stop it"
+            "AUTH_TOOWEAK, only root on its machine may ask that"
         }
         CallRefusal::AuthError { .. } => "AUTH_ERROR, it wants another credential",
     };

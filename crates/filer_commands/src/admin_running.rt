@@ -3,6 +3,8 @@
 ghost use Rattle.std.specs.Prelude.{◌≤◌, IfOk};
 
 use crate::admin_printing::{print_census, print_growth, print_stop, tell_fault};
+use admin_client::AdminUser;
+use libc::{getegid, geteuid};
 use nfs_values::VolumeNumber;
 use scripts::ProgramFault;
 use std::io::{self, ErrorKind, Read, Write};
@@ -109,6 +111,71 @@ where
     }
 }
 
+/// Who runs the process.
+fn own_user() -> AdminUser {
+    AdminUser::Of {
+        uid: geteuid(),
+        gid: getegid(),
+    }
+}
+
+/// A stream that was connected just now.
+fn opened<R: Clock>(rt: &R, stream: TcpStream) -> Result<Patient<'_, R>, ProgramFault> {
+    match Instant::now(rt) {
+        Ok(opened) => Ok(Patient {
+            stream,
+            clock: rt,
+            opened,
+        }),
+        Err(_failed) => Err(ProgramFault::Connect),
+    }
+}
+
+/// A connection to a server from a port below 1024, where the process may have one.
+fn reach_low<'a, R, E>(
+    rt: &'a R,
+    server: SocketAddr,
+    err: &mut E,
+) -> Result<Option<Patient<'a, R>>, ProgramFault>
+where
+    R: Clock + Net<Listener = TcpListener, Stream = TcpStream>,
+    E: Write,
+{
+    match low_ports::connect(rt, &server, Duration::from_secs(PATIENCE)) {
+        Ok(stream) => Ok(Some(opened(rt, stream)?)),
+        Err(error) => {
+            if error.kind() == ErrorKind::PermissionDenied {
+                return Ok(None);
+            }
+            let _told = writeln!(err, "no server can be reached at {server}");
+            Err(ProgramFault::Connect)
+        }
+    }
+}
+
+/// A connection to a server from a port below 1024, and where the process may have none from
+/// another one, which is told.
+fn reach_for_growth<'a, R, E>(
+    rt: &'a R,
+    server: SocketAddr,
+    err: &mut E,
+) -> Result<Patient<'a, R>, ProgramFault>
+where
+    R: Clock + Net<Listener = TcpListener, Stream = TcpStream>,
+    E: Write,
+{
+    match reach_low(rt, server, err)? {
+        Some(stream) => Ok(stream),
+        None => {
+            let _told = writeln!(
+                err,
+                "no port below 1024 can be had: a server that checks its callers refuses this"
+            );
+            reach(rt, server, err)
+        }
+    }
+}
+
 /// What is to grow: a volume of a server, by this many ranges.
 #[derive(Clone, Copy)]
 pub struct Growing {
@@ -136,8 +203,8 @@ where
         volume,
         ranges,
     } = growing;
-    let mut stream = reach(rt, server, err)?;
-    match admin_client::grow(&mut stream, rt.alloc(), volume, ranges) {
+    let mut stream = reach_for_growth(rt, server, err)?;
+    match admin_client::grow(&mut stream, rt.alloc(), own_user(), volume, ranges) {
         Ok(growth) => {
             let grown = print_growth(out, volume, ranges, growth)?;
             Ok(if grown { 0 } else { 1 })
@@ -156,27 +223,15 @@ where
     R: Clock + Net<Listener = TcpListener, Stream = TcpStream>,
     E: Write,
 {
-    let stream = match low_ports::connect(rt, &server, Duration::from_secs(PATIENCE)) {
-        Ok(stream) => stream,
-        Err(error) => {
-            let _told = if error.kind() == ErrorKind::PermissionDenied {
-                writeln!(
-                    err,
-                    "only root may stop a server: no port below 1024 can be had"
-                )
-            } else {
-                writeln!(err, "no server can be reached at {server}")
-            };
-            return Err(ProgramFault::Connect);
+    match reach_low(rt, server, err)? {
+        Some(stream) => Ok(stream),
+        None => {
+            let _told = writeln!(
+                err,
+                "only root may stop a server: no port below 1024 can be had"
+            );
+            Err(ProgramFault::Connect)
         }
-    };
-    match Instant::now(rt) {
-        Ok(opened) => Ok(Patient {
-            stream,
-            clock: rt,
-            opened,
-        }),
-        Err(_failed) => Err(ProgramFault::Connect),
     }
 }
 
@@ -194,7 +249,7 @@ where
     ensures { IfOk result (λ status. status ≤ 1) }
 {
     let mut stream = reach_as_root(rt, server, err)?;
-    match admin_client::stop(&mut stream, rt.alloc()) {
+    match admin_client::stop(&mut stream, rt.alloc(), own_user()) {
         Ok(()) => {
             print_stop(out)?;
             Ok(0)

@@ -23,7 +23,8 @@ Example:
   filer grow --volume 0 --ranges 1
 
 A range has 1,024 blocks of 4,096 bytes. A volume has at most 16 ranges, and those that are added
-are taken from the spare ones of the server.";
+are taken from the spare ones of the server. A server that checks its callers grows for root on its
+machine alone.";
 
 /// What stands behind the help of `stop`.
 const STOP_EXAMPLE: &str = "\

@@ -2,6 +2,7 @@
 
 ghost use Rattle.std.specs.Prelude.{◌+◌, ◌*◌, ◌≤◌};
 
+use crate::rule_printing::write_rules;
 use affinity::{MEBIBYTE, MOST_VOLUMES};
 use nfs_values::BLOCK_BYTES;
 use server::ENOUGH_STOCKED;
@@ -116,7 +117,8 @@ fn write_mounts<W: fmt::Write>(
     Ok(())
 }
 
-/// What is exported, to whom, where metrics are told, if they are, and how to mount it.
+/// What is exported, to whom, what callers may do, where metrics are told, if they are, and how to
+/// mount it.
 fn write_exports<W: fmt::Write>(
     lines: &mut W,
     options: &Options,
@@ -124,11 +126,7 @@ fn write_exports<W: fmt::Write>(
     reached: &Reached<'_>,
 ) -> fmt::Result {
     write_volumes(lines, options)?;
-    let peers = &options.peers;
-    writeln!(
-        lines,
-        "may connect: {peers}; modes are told and guard nothing"
-    )?;
+    write_rules(lines, options)?;
     if let Some(address) = metrics {
         writeln!(lines, "metrics: http://{address}/metrics")?;
     }

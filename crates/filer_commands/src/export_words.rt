@@ -7,14 +7,12 @@ use crate::limits::{
     MOST_REPLIES, MOST_VOLUMES, MOST_WORKERS, USUAL_WORKERS,
 };
 use crate::machine::Machine;
-use crate::names::{Names, address_of, is_name, networks_of};
-use crate::wrong_value::{
-    ADDRESS, FILE_SIZE, HOST, NETWORK, NETWORKS, NUMBER, OWED, VOLUME_SIZE, WrongValue, wrong,
-};
+use crate::names::{Names, address_of, is_name};
+use crate::peer_words::{root_in, rules_in, with_callers, with_networks};
+use crate::wrong_value::{ADDRESS, FILE_SIZE, HOST, NUMBER, OWED, VOLUME_SIZE, WrongValue, wrong};
 use clap::{Arg, ArgAction, ArgMatches, value_parser};
 use server_options::{
-    Admission, IdleTime, LEAST_VOLUME, MOST_BYTES, MOST_NETWORKS, Network, Options, Peers, Period,
-    VolumePlan, WhenFull,
+    Admission, IdleTime, LEAST_VOLUME, MOST_BYTES, Options, Period, VolumePlan, WhenFull,
 };
 use std::alloc::{AllocError, Global};
 use std::net::SocketAddr;
@@ -40,12 +38,13 @@ const EXAMPLE: &str = "\
 Examples:
   filer export
   filer export --listen 127.0.0.1:2049 --size 40G --inodes 1000000
-  filer export --listen 192.0.2.1:2049 --volumes 2 --workers 4 --allow 192.0.2.0/24
+  filer export --listen 192.0.2.1:2049 --volumes 2 --workers 4 --allow 192.0.2.0/24 --squash root
+  filer export --root-mode 1777
   mount -t nfs -o vers=3,proto=tcp,port=2049,mountport=2049,mountproto=tcp,nolock \
 127.0.0.1:/vol0 /mnt
 
-Whoever may connect may do everything: modes are told, and guard nothing. All files are gone when
-the program ends.";
+Callers are checked by the owner, the group and the mode of files, as whom they claim to be. All
+files are gone when the program ends.";
 
 /// An option with a number from 1, and what it is without.
 fn number<'a>(alloc: Global, name: &'a str, most: i64, default: &'a str, help: &'a str) -> Arg<'a> {
@@ -75,13 +74,6 @@ fn with_guests<'a>(
         "Connections until it ends [none]",
     )
     .value_parser(value_parser!(u64).range(1..=MOST_CONNECTIONS));
-    let allow = optional(
-        alloc,
-        "allow",
-        "NETWORK",
-        "Who may connect, as 10.0.0.0/8 or a host [loopback]",
-    )
-    .action(ArgAction::Append);
     let idle = optional(
         alloc,
         "idle",
@@ -100,7 +92,7 @@ fn with_guests<'a>(
         .long("portmap")
         .help("Tells where it listens at port 111, by TCP and UDP")
         .action(ArgAction::SetTrue);
-    let command = command.arg(connections)?.arg(allow)?;
+    let command = with_networks(alloc, command.arg(connections)?)?;
     command.arg(idle)?.arg(owed)?.arg(mapper)
 }
 
@@ -167,7 +159,9 @@ fn with_lines<'a>(
 
 /// `export [--listen ADDR] [--volumes N] [--workers N] [--size BYTES | --ranges N]
 /// [--file-size BYTES] [--inodes N] [--remember N] [--connections N] [--allow NETWORK]..
-/// [--idle SECONDS] [--owed BYTES] [--portmap] [--log] [--stats MINUTES] [--metrics ADDR]`, in any order.
+/// [--allow-read NETWORK].. [--idle SECONDS] [--owed BYTES] [--portmap] [--squash WHOM]
+/// [--anon UID:GID] [--privileged-ports] [--root-mode OCTAL] [--no-permission-checks] [--log]
+/// [--stats MINUTES] [--metrics ADDR]`, in any order.
 pub(crate) fn export<'a>(alloc: Global) -> Result<clap::Command<'a>, AllocError> {
     let listen = optional(alloc, "listen", "ADDR", "Address or host, and port").default_value(
         USUAL_ADDRESS,
@@ -193,7 +187,8 @@ pub(crate) fn export<'a>(alloc: Global) -> Result<clap::Command<'a>, AllocError>
         .arg(number(alloc, "volumes", MOST_VOLUMES, "1", "Volumes, 1 to 8"))?
         .arg(workers)?
         .arg(replies)?;
-    with_lines(alloc, with_guests(alloc, with_sizes(alloc, command)?)?)
+    let command = with_guests(alloc, with_sizes(alloc, command)?)?;
+    with_lines(alloc, with_callers(alloc, command)?)
 }
 
 /// The value of an option that is a number.
@@ -202,56 +197,6 @@ fn number_in<'a>(matches: &ArgMatches<'a>, option: &'static str) -> Result<u64, 
         Some(number) => Ok(number),
         None => Err(wrong(option, "", NUMBER)),
     }
-}
-
-/// The networks that a value of `--allow` names: one, or the addresses of a host. They stand at the
-/// start of a list.
-fn networks_in<'a, N: Names>(
-    text: &'a str,
-    names: &N,
-) -> Result<[Option<Network>; MOST_NETWORKS], WrongValue<'a>> {
-    if let Some(network) = Network::read(text) {
-        let mut networks = [None; MOST_NETWORKS];
-        networks[0] = Some(network);
-        return Ok(networks);
-    }
-    if !is_name(text) {
-        return Err(wrong("allow", text, NETWORK));
-    }
-    let networks = networks_of(names, text);
-    if networks[0].is_none() {
-        return Err(wrong("allow", text, HOST));
-    }
-    Ok(networks)
-}
-
-/// Puts networks behind others in a list, and answers whether there is room for all.
-fn put_behind(
-    networks: &mut [Option<Network>; MOST_NETWORKS],
-    more: [Option<Network>; MOST_NETWORKS],
-) -> bool {
-    let mut places = networks.iter_mut().filter(|network| network.is_none());
-    for network in more.into_iter().flatten() {
-        match places.next() {
-            Some(place) => *place = Some(network),
-            None => return false,
-        }
-    }
-    true
-}
-
-/// Whose connections are served: of the own machine, where no network is named.
-fn peers_in<'a, N: Names>(matches: &ArgMatches<'a>, names: &N) -> Result<Peers, WrongValue<'a>> {
-    let Some(texts) = matches.get_strs("allow") else {
-        return Ok(Peers::Loopback);
-    };
-    let mut networks = [None; MOST_NETWORKS];
-    for text in texts {
-        if !put_behind(&mut networks, networks_in(text, names)?) {
-            return Err(wrong("allow", text, NETWORKS));
-        }
-    }
-    Ok(Peers::Networks(networks))
 }
 
 /// The bytes of each of this many volumes where no size is named: an even share of what a machine
@@ -384,8 +329,9 @@ fn options_in<'a, N: Names>(
         None => machine.processors.clamp(1, USUAL_WORKERS),
     };
     let connections = matches.get_one::<u64>("connections");
-    let plan = plan_in(matches, volumes, machine)?;
-    let peers = peers_in(matches, names)?;
+    let rules = rules_in(matches, names)?;
+    let root = root_in(matches, &rules.standing)?;
+    let plan = plan_in(matches, volumes, machine)?.with_root(root);
     let idle = idle_in(matches)?;
     let most_owed = most_owed_in(matches, volumes, &plan)?;
     let Some(options) = Options::new(address, volumes as usize, workers, connections) else {
@@ -393,7 +339,7 @@ fn options_in<'a, N: Names>(
     };
     let options = options
         .with_admission(ADMISSION)
-        .with_peers(peers)
+        .with_rules(rules)
         .with_plan(plan)
         .with_idle(idle)
         .with_most_owed(most_owed)

@@ -214,7 +214,7 @@ where
     let address = listener.local_addr().map_err(|_| ProgramFault::Listen)?;
     let metrics = metrics_listener::bind(&rt, rt.alloc(), exporting.metrics, err)?;
     let mapping = if exporting.has_port_mapper {
-        Some(Mapping::start(rt, rt.alloc(), &address, options.peers, err)?)
+        Some(Mapping::start(rt, rt.alloc(), &address, options.rules.peers, err)?)
     } else {
         None
     };

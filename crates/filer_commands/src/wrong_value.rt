@@ -40,11 +40,11 @@ pub(crate) const ADDRESS: &str =
 /// A host's name that isn't known.
 pub(crate) const HOST: &str = "no address of that host is known";
 
-/// A network of `--allow`.
+/// A network of `--allow` or `--allow-read`.
 pub(crate) const NETWORK: &str =
     "a network or a host's name is wanted, as 10.0.0.0/8, whose bits behind these 8 are 0";
 
-/// One network of `--allow` too many.
+/// One network too many.
 pub(crate) const NETWORKS: &str = "at most 16 networks may be named";
 
 /// The size of a volume.
@@ -55,6 +55,15 @@ pub(crate) const FILE_SIZE: &str = "a size from 16M to 1T is wanted, as 40G";
 
 /// What may be owed.
 pub(crate) const OWED: &str = "a size of at least 64M is wanted, as 1G";
+
+/// Whose calls are anonymous.
+pub(crate) const SQUASH: &str = "none, root or all is wanted";
+
+/// Who is anonymous.
+pub(crate) const ANONYMOUS: &str = "a uid and a gid are wanted, as 65534:65534";
+
+/// The mode of roots.
+pub(crate) const ROOT_MODE: &str = "octal digits up to 7777 are wanted, as 1777";
 
 /// A number of an option.
 pub(crate) const NUMBER: &str = "a number in its range is wanted";

@@ -8,3 +8,4 @@ pub mod names
 pub mod changes
 pub mod totals
 pub mod bytes
+pub mod permissions

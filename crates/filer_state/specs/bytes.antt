@@ -5,4 +5,6 @@ pub mod WritingLaws
 pub mod Extending
 pub mod WritingUp
 pub mod WritingUpLaws
+pub mod Permitted
+pub mod PermittedLaws
 pub mod lemmas

@@ -3,4 +3,6 @@
 
 mod laws;
 
-pub use laws::{reading_calls_are_right, writing_calls_are_right};
+pub use laws::{
+    reading_calls_are_right, reads_are_permitted, writes_are_permitted, writing_calls_are_right,
+};

@@ -17,6 +17,7 @@ mod logical;
 pub mod names;
 pub mod nodes;
 mod opening;
+pub mod permissions;
 mod range;
 pub mod state;
 mod stripe;

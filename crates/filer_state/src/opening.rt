@@ -2,7 +2,7 @@
 
 ghost use Rattle.std.specs.Prelude.{◌≡◌, ◌<◌, [], IfOk, slice_get, slice_index_or};
 ghost use Rattle.affinity.specs.Affinity.{affinity_of};
-ghost use Rattle.affinity.specs.Largest.{begun_of, inodes_of, largest_of, remembered_of, steps_of};
+ghost use Rattle.affinity.specs.Largest.{begun_of, inodes_of, largest_of, remembered_of, root_of, steps_of};
 ghost use Rattle.affinity.specs.Layout.{layout_of};
 ghost use Rattle.affinity.specs.Numbers.{parents};
 ghost use Rattle.affinity.specs.Tree.{IsNode};
@@ -126,8 +126,8 @@ fn opening_logical(
 ) -> Result<LogicalParcel, AllocError>
     ensures { let L = layout_of layout.now in IfOk result (λ parcel. parcel ≡
         opening_logical verifier.0 (stripes_of L volume) (largest_of L volume)
-        (inodes_of L volume) (steps_of L volume) (begun_of L volume) (range_blocks_of L volume)
-        (remembered_of L volume)) }
+        (inodes_of L volume) (steps_of L volume) (root_of L volume) (begun_of L volume)
+        (range_blocks_of L volume) (remembered_of L volume)) }
 {
     let mut directories = DirectoryMap::new(alloc);
     directories.insert(Fileid::ROOT, Directory::new(alloc))?;
@@ -137,7 +137,7 @@ fn opening_logical(
         largest: layout.largest_of(volume),
         most_inodes: layout.inodes_of(volume),
         most_steps: layout.steps_of(volume),
-        inodes: Inodes::new(alloc, layout.begun_of(volume))?,
+        inodes: Inodes::new(alloc, layout.root_of(volume), layout.begun_of(volume))?,
         directories,
         stock: Stock::new(alloc),
         dead: DeadBlocks::new(alloc, layout.range_blocks_of(volume))?,

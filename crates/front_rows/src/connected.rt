@@ -12,7 +12,7 @@ use crate::texts::{
 };
 use affinity::Layout;
 use connections::{Came, Connection, Sent};
-use nfs_values::{ConnectionNumber, PeerAddress};
+use nfs_values::{ConnectionNumber, PeerAddress, Standing};
 use rpc_msg::Offer;
 use std::mem;
 use std::process::Abort;
@@ -69,6 +69,7 @@ fn connection(rt: &impl AllocGlobal, device: Memory) -> Connection<Memory> {
     let peer = Peer {
         is_privileged: false,
         address: PeerAddress::NONE,
+        standing: Standing::UNCHECKED,
     };
     Connection::new(rt.alloc(), device, peer, ConnectionNumber(0))
 }

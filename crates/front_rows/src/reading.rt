@@ -10,7 +10,7 @@ use crate::texts::{
     NULL, NULL_IN_TWO, NULL_REPLY, SHORT, STOP, STOP_REPLY, TOO_LONG, TOO_WEAK_REPLY,
 };
 use affinity::{AggregateSpec, CallNode, Layout, VolumeSpec};
-use nfs_values::{ConnectionNumber, PeerAddress};
+use nfs_values::{ConnectionNumber, PeerAddress, Standing};
 use rpc_msg::Offer;
 use std::mem;
 use std::process::Abort;
@@ -211,6 +211,7 @@ pub(crate) fn read(rt: &(impl Abort + AllocGlobal + Wait), row: &Row, size: usiz
     let peer = Peer {
         is_privileged: false,
         address: PeerAddress::NONE,
+        standing: Standing::UNCHECKED,
     };
     read_of(rt, row, size, Offer::basic(), peer);
 }
@@ -226,6 +227,7 @@ fn stop_comes_to(
         let peer = Peer {
             is_privileged,
             address: PeerAddress::NONE,
+            standing: Standing::UNCHECKED,
         };
         read_of(rt, row, size, offer, peer);
     }
@@ -288,6 +290,7 @@ fn calls_come_from_their_peer(rt: HostRuntime) {
         let peer = Peer {
             is_privileged: false,
             address: PeerAddress { address, port },
+            standing: Standing::UNCHECKED,
         };
         read_of(&rt, &row, 7, Offer::basic(), peer);
     }

@@ -8,7 +8,7 @@ use crate::gathered::Gathered;
 use crate::reading::{bytes_of, layout, same, sink};
 use crate::texts::{NO_PROGRAM, NO_PROGRAM_REPLY, NULL, NULL_REPLY};
 use crate::waiting::Waiting;
-use nfs_values::{ConnectionNumber, PeerAddress};
+use nfs_values::{ConnectionNumber, PeerAddress, Standing};
 use rpc_msg::Offer;
 use std::mem;
 use std::process::Abort;
@@ -82,6 +82,7 @@ pub(crate) fn waiting_for(rt: &(impl Abort + AllocGlobal + Wait), records: &[&[u
         Peer {
             is_privileged: false,
             address: PeerAddress::NONE,
+            standing: Standing::UNCHECKED,
         },
         &mut sink,
     );

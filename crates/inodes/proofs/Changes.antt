@@ -5,7 +5,7 @@ use Rattle.std.specs.Cmp.{nat_cmp_total}
 use Rattle.std.specs.FinMap.{FinMap, get, insert, remove, empty, from_sorted, get-empty, get-insert, get-from_sorted, same_map, nat_cmp-IsAntisymmetric}
 use Rattle.std.proofs.lemmas.Bool.Decides.{nat_tests}
 use Rattle.std.proofs.lemmas.Map.Views.{exact_unsigned_eq}
-use Rattle.nfs_model.specs.Types.{Moment}
+use Rattle.nfs_model.specs.Types.{Moment, Ownership}
 use Rattle.nfs_model.specs.volume.Maps.{changed_value, changed_at}
 use Rattle.nfs_model.specs.volume.Inodes as values
 use Rattle.nfs_values.specs.declared.number.Fileid.{Fileid}
@@ -24,9 +24,9 @@ first-alone root = same_map nat_cmp_total nat_cmp-IsAntisymmetric (insert empty 
     get-insert nat_cmp_total empty 1 root q ∙ (ap (cond (eq_by_cmp nat_cmp q 1) (Some root)) (get-empty nat_cmp q)
     ∙ sym (get-from_sorted nat_cmp ((1, root) ∷ []) q tt)))
 
-pub opened : (begun : Moment) (root : values.Inode) (first new : FinMap nat_cmp values.Inode) → root ≡ root_inode begun → first ≡ empty
-    → new ≡ insert first 1 root → inodes_value (record { 0 = 2 }) 0 new ≡ opening_inodes begun
-opened begun root first new is none h =
+pub opened : (owner : Ownership) (begun : Moment) (root : values.Inode) (first new : FinMap nat_cmp values.Inode) → root ≡ root_inode owner begun → first ≡ empty
+    → new ≡ insert first 1 root → inodes_value (record { 0 = 2 }) 0 new ≡ opening_inodes owner begun
+opened owner begun root first new is none h =
     ap (λ m. record { next = 2; used = 0; inodes = m })
     (h ∙ ap (λ m. insert m 1 root) none ∙ first-alone root ∙ ap (λ (i : values.Inode). from_sorted ((1, i) ∷ [])) is)
 

@@ -4,7 +4,7 @@ use Rattle.std.proofs.Common.{length, Option, Some, None, is_some, if◌then◌e
 use Rattle.std.specs.Ordering.{nat_cmp}
 use Rattle.std.specs.Cmp.{nat_cmp_total, unsigned_tied}
 use Rattle.std.specs.FinMap.{FinMap, get, insert, remove, entries, len, find, get-entries, len-entries, len-insert, len-remove}
-use Rattle.nfs_model.specs.Types.{Moment}
+use Rattle.nfs_model.specs.Types.{Moment, Ownership}
 use Rattle.nfs_model.specs.volume.Inodes.{inodes_of_a_volume}
 use Rattle.nfs_model.specs.volume.Maps.{changed_value}
 use Rattle.nfs_model.specs.volume.lemmas.Numbered.{itself, get-insert_at, get-remove_at}
@@ -75,14 +75,14 @@ used-most v i a = let most = used-few 67108864 v i a.counts a.few in omega (arit
 pub kept-few : (v w : InodesValue) → v ≡ w → AreFew w → AreFew v
 kept-few v w e a = subst AreFew (sym e) a
 
-pub opening-few : (moment : Moment) → AreFew (opening_inodes moment)
-opening-few moment = record {
-  few = let one = len-opening moment in omega (arith, one);
-  counts = λ q y h. by y (q == 1) (sym (inode-opening moment q) ∙ h);
+pub opening-few : (owner : Ownership) (moment : Moment) → AreFew (opening_inodes owner moment)
+opening-few owner moment = record {
+  few = let one = len-opening owner moment in omega (arith, one);
+  counts = λ q y h. by y (q == 1) (sym (inode-opening owner moment q) ∙ h);
 }
   where
-    by : (y : Inode) (b : Bool) → (if b then Some (root_inode moment) else None) ≡ Some y → filled_blocks y.kind < 2 ^ 32
-    by y true g = subst (λ (i : Inode). filled_blocks i.kind < 2 ^ 32) (some-is (root_inode moment) y g) (omega arith)
+    by : (y : Inode) (b : Bool) → (if b then Some (root_inode owner moment) else None) ≡ Some y → filled_blocks y.kind < 2 ^ 32
+    by y true g = subst (λ (i : Inode). filled_blocks i.kind < 2 ^ 32) (some-is (root_inode owner moment) y g) (omega arith)
     by y false g = absurd (grind (arith, g))
 
 pub created-few : (v : InodesValue) (inode : Inode) → IsInodes v → AreFew v → len v.inodes < inodes_of_a_volume → filled_blocks inode.kind < 2 ^ 32

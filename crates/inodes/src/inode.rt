@@ -2,12 +2,13 @@
 
 ghost use Rattle.std.specs.Prelude.{◌≡◌};
 
-use nfs_values::{Fileid, Moment, Verifier};
+use nfs_values::{Fileid, Moment, Ownership, Verifier};
 
 /// What is stored of a node's attributes (fattr3, RFC 1813 section 2.6).
 #[derive(Clone, Copy, Debug, PartialEq, Eq)]
 pub struct StoredAttributes {
-    pub mode: u32,
+    /// Twelve bits.
+    pub mode: u16,
     pub uid: u32,
     pub gid: u32,
     pub atime: Moment,
@@ -43,8 +44,21 @@ pub struct Inode {
 impl StoredAttributes {
     ghost use Rattle.std.specs.Option.{option_map};
     ghost use Rattle.nfs_model.specs.Shown.{effective_attributes};
+    ghost use Rattle.nfs_model.specs.Serial.Rights.{ownership_of as ownership_of_attributes};
     ghost use Rattle.nfs_values.specs.Moment.{moment_of};
+    ghost use Rattle.nfs_values.specs.Ownership.{ownership_of};
     ghost use Rattle.inodes.specs.Inode.{attributes_value};
+
+    /// The mode, the owner and the group.
+    pub fn ownership(&self) -> Ownership
+        ensures { ownership_of result ≡ ownership_of_attributes (attributes_value self.now) }
+    {
+        Ownership {
+            mode: self.mode,
+            uid: self.uid,
+            gid: self.gid,
+        }
+    }
 
     /// The attributes with a touch, if there is one, as mtime and ctime.
     pub fn with_touch(self, touch: Option<Moment>) -> StoredAttributes
@@ -80,19 +94,20 @@ impl InodeKind {
 impl Inode {
     ghost use Rattle.std.specs.Option.{option_map};
     ghost use Rattle.nfs_values.specs.Moment.{moment_of};
+    ghost use Rattle.nfs_values.specs.Ownership.{ownership_of};
     ghost use Rattle.nfs_model.specs.volume.Inodes.{attributes_held, root_inode, settled_inode};
     ghost use Rattle.inodes.specs.Inode.{attributes_value, inode_value};
 
-    /// The root directory as a volume begins at a moment: mode 0755 (octal), uid and gid 0, that
-    /// moment as all its times, its own parent (our profile).
-    pub fn root(begun: Moment) -> Inode
-        ensures { inode_value result ≡ root_inode (moment_of begun) }
+    /// The root directory as a volume begins at a moment: who owns it is given, that moment is all
+    /// its times, and it is its own parent (our profile).
+    pub fn root(owner: Ownership, begun: Moment) -> Inode
+        ensures { inode_value result ≡ root_inode (ownership_of owner) (moment_of begun) }
     {
         Inode {
             attributes: StoredAttributes {
-                mode: 0o755,
-                uid: 0,
-                gid: 0,
+                mode: owner.mode,
+                uid: owner.uid,
+                gid: owner.gid,
                 atime: begun,
                 mtime: begun,
                 ctime: begun,

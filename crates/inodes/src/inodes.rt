@@ -14,6 +14,7 @@ ghost use Rattle.std.specs.Prelude.{
 ghost use Rattle.std.specs.Option.{option_map};
 ghost use Rattle.std.specs.FinMap.{len};
 ghost use Rattle.nfs_values.specs.Moment.{moment_of};
+ghost use Rattle.nfs_values.specs.Ownership.{ownership_of};
 ghost use Rattle.nfs_model.specs.volume.Inodes.{
   IsInodes,
   inodes_of_a_volume,
@@ -31,7 +32,7 @@ use crate::created::Created;
 use crate::inode::Inode;
 use crate::table::Table;
 use chunk_maps::GROUP;
-use nfs_values::{Fileid, Moment};
+use nfs_values::{Fileid, Moment, Ownership};
 use std::alloc::{AllocError, Global};
 use std::marker::Model;
 
@@ -69,13 +70,14 @@ impl Model for Inodes {
 }
 
 impl Inodes {
-    /// The inodes of a volume that begins at a moment: its root directory alone, with that moment
-    /// as its times, and 2 as the next fileid.
-    pub fn new(alloc: Global, begun: Moment) -> Result<Inodes, AllocError>
-        ensures { IfOk result (λ inodes. inodes ≡ opening_inodes (moment_of begun)) }
+    /// The inodes of a volume that begins at a moment: its root directory alone, of a given owner
+    /// and with that moment as its times, and 2 as the next fileid.
+    pub fn new(alloc: Global, owner: Ownership, begun: Moment) -> Result<Inodes, AllocError>
+        ensures { IfOk result (λ inodes.
+            inodes ≡ opening_inodes (ownership_of owner) (moment_of begun)) }
     {
         let mut by_fileid = Table::new(alloc);
-        by_fileid.insert(Fileid::ROOT, Inode::root(begun))?;
+        by_fileid.insert(Fileid::ROOT, Inode::root(owner, begun))?;
         Ok(Inodes {
             by_fileid,
             next: Fileid(2),

@@ -9,7 +9,7 @@ use crate::opening::{MemoryLane, open_lanes};
 use crate::texts::{GETATTR, NULL, bytes_of};
 use connections::{Came, Sent};
 use lanes::LaneParts;
-use nfs_values::{PeerAddress, VolumeNumber};
+use nfs_values::{PeerAddress, Standing, VolumeNumber};
 use std::process::Abort;
 use std::sync::Wait;
 use tcp_front::Peer;
@@ -29,6 +29,7 @@ pub(crate) fn ask<R: Wait>(
     let peer = Peer {
         is_privileged: false,
         address: PeerAddress::NONE,
+        standing: Standing::UNCHECKED,
     };
     let opened = lane.open(device(rt, records, takes), peer);
     assert!(rt; opened.ok() == Some(key));

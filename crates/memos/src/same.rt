@@ -146,7 +146,8 @@ fn is_same_peer(one: PeerAddress, other: PeerAddress) -> bool
     one.address == other.address && one.port == other.port
 }
 
-/// Whether two callers are one. Numbers come first, since they differ most often.
+/// Whether two callers are one; what either may do isn't compared. Numbers come first, since they
+/// differ most often.
 pub(crate) fn is_same_caller(one: &Caller, other: &Caller) -> bool
     ensures { result ≡ same_caller (caller_of one.now) (caller_of other.now) }
 {

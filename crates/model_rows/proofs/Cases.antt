@@ -1,5 +1,5 @@
 -- What the rows are about: small servers of one range and 65,536 inodes a volume, and what is shown of their nodes.
-use Rattle.std.specs.Prelude.{ℕ, List, [], ◌∷◌, None}
+use Rattle.std.specs.Prelude.{ℕ, false, List, [], ◌∷◌, None}
 use Rattle.std.specs.FinMap.{from_sorted}
 use Rattle.std.specs.FinSet as sets
 use Rattle.nfs_model.specs.Types.{Moment, Caller, Shown, Regular, DirectoryKind, Listed}
@@ -8,9 +8,15 @@ use Rattle.nfs_model.specs.Server.{Attributes, Node, File, Directory, Server, ha
 abbrev pub at : ℕ → Moment
 at seconds = record { seconds = seconds; nanoseconds = 0 }
 
--- a caller with further groups, and one without them
+-- a caller that isn't checked, with further groups, and one without them
 abbrev pub user_in : ℕ → ℕ → List ℕ → Caller
-user_in uid gid gids = record { credential = record { uid = uid; gid = gid; gids = gids }; xid = 0; peer = 0 }
+user_in uid gid gids = record {
+  credential = record { uid = uid; gid = gid; gids = gids };
+  xid = 0;
+  peer = 0;
+  checked = false;
+  reads_only = false;
+}
 
 abbrev pub user : ℕ → ℕ → Caller
 user uid gid = user_in uid gid []

@@ -2,7 +2,7 @@
 -- one. A handle is of another run where any byte of the verifier is another.
 use Rattle.std.proofs.Common.{◌≡◌, ℕ, Bool, List, [], ◌∷◌, ◌++◌, refl}
 use Rattle.nfs_model.specs.Types.{Answer, Reply, Success, LookupDone, MadeDone, ReaddirplusDone, MountDone, Shown, Wcc, Listed, ListedPlus}
-use Rattle.std.specs.Prelude.{Option}
+use Rattle.std.specs.Prelude.{Option, Some}
 use Rattle.rpc_msg.specs.declared.handle_form.HandleForm.{HandleForm}
 use Rattle.rpc_msg.specs.declared.handle_form.HandleForm.TheVariants.{Plain, OfRun}
 use Rattle.rpc_msg.specs.HandleForm.{handle_heard}
@@ -34,7 +34,7 @@ handle_of_what_was_made : (object : Shown) (directory : Wcc) → told (MadeDone 
 handle_of_what_was_made object directory = refl
 
 abbrev plus : Listed → Option Shown → List ℕ → ListedPlus
-plus e shown handle = record { entry = e; attributes = shown; handle = handle }
+plus e shown handle = record { entry = e; attributes = shown; handle = Some handle }
 
 -- READDIRPLUS (section 3.3.17), of each entry
 handles_of_a_page : (directory : Shown) (e g : Listed) (of_e of_g : Option Shown) (eof : Bool)

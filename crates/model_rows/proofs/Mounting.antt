@@ -2,12 +2,12 @@
 use Rattle.std.proofs.Common.{◌≡◌, ℕ, false, List, [], ◌∷◌, replicate, refl}
 use Rattle.nfs_model.specs.Types.{Mount, MountCall, Mnt, Exports, Reply, Ask, Success, Failed, MountDone, ExportsDone, NoEntry}
 use Rattle.nfs_model.specs.Tree.{VolumeLayout}
-use Rattle.nfs_model.specs.Server.{opening, start_of_times}
+use Rattle.nfs_model.specs.Server.{opening, start_of_times, root_of_root}
 use Rattle.nfs_model.specs.Serial.Step.{serial}
 use Rattle.model_rows.proofs.Cases.{at, nobody, verifier}
 
 abbrev one_range : VolumeLayout
-one_range = record { aggregate = 0; ranges = 1; stripes = 8; mebibytes = 16; range_blocks = 1024; inodes = 65536; most_steps = 4; begun = start_of_times; remembered = 0 }
+one_range = record { aggregate = 0; ranges = 1; stripes = 8; mebibytes = 16; range_blocks = 1024; inodes = 65536; most_steps = 4; begun = start_of_times; root = root_of_root; remembered = 0 }
 
 -- what MOUNT answers of eight volumes
 abbrev mounting : MountCall → Reply

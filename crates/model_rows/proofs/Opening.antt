@@ -4,18 +4,18 @@ use Rattle.std.proofs.Common.{◌≡◌, false, [], ◌∷◌, refl}
 use Rattle.nfs_model.specs.Types.{Moment, Fsstat, Fsinfo, Getattr, GetattrDone, Census, Grow, Ask}
 use Rattle.nfs_model.specs.Types.{Success, Failed, FsstatDone, FsinfoDone, CensusDone, GrowDone, NoSpace}
 use Rattle.nfs_model.specs.Tree.{VolumeLayout}
-use Rattle.nfs_model.specs.Server.{Server, opening, handle_bytes, start_of_times}
+use Rattle.nfs_model.specs.Server.{Server, opening, handle_bytes, start_of_times, root_of_root}
 use Rattle.nfs_model.specs.Serial.Step.{serial}
 use Rattle.nfs_laws.specs.lemmas.Evaluate.{evaluate}
 use Rattle.model_rows.proofs.Cases.{at, nobody, verifier, root_shown}
 
 -- one range of 1,024 blocks, files of 16 MiB, 65,536 inodes, on aggregate 0
 abbrev small : VolumeLayout
-small = record { aggregate = 0; ranges = 1; stripes = 8; mebibytes = 16; range_blocks = 1024; inodes = 65536; most_steps = 4; begun = start_of_times; remembered = 0 }
+small = record { aggregate = 0; ranges = 1; stripes = 8; mebibytes = 16; range_blocks = 1024; inodes = 65536; most_steps = 4; begun = start_of_times; root = root_of_root; remembered = 0 }
 
 -- two ranges of 4,096 blocks, files of 100 MiB, 70,000 inodes, on aggregate 1
 abbrev large : VolumeLayout
-large = record { aggregate = 1; ranges = 2; stripes = 16; mebibytes = 100; range_blocks = 4096; inodes = 70000; most_steps = 4; begun = start_of_times; remembered = 0 }
+large = record { aggregate = 1; ranges = 2; stripes = 16; mebibytes = 100; range_blocks = 4096; inodes = 70000; most_steps = 4; begun = start_of_times; root = root_of_root; remembered = 0 }
 
 -- no range of aggregate 0 is spare, and three of aggregate 1
 abbrev start : Server

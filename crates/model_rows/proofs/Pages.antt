@@ -1,9 +1,9 @@
 -- READDIR and READDIRPLUS (RFC 1813 sections 3.3.16 and 3.3.17): a count above 65,536 is taken as that (our profile). Of 65,536 bytes 104 are the
 -- page's own, and 65,432 are left.
-use Rattle.std.proofs.Common.{◌≡◌, ℕ, ◌+◌, true, false, List, [], ◌∷◌, replicate, None, refl, arith}
+use Rattle.std.proofs.Common.{◌≡◌, ℕ, ◌+◌, true, false, List, [], ◌∷◌, replicate, Some, None, refl, arith}
 use Rattle.std.specs.Prelude.{min}
 use Rattle.std.proofs.Math.Nat.{min-eq_right}
-use Rattle.nfs_model.specs.Types.{Listed, Readdir, Readdirplus, Ask, Success, Failed, ReaddirDone, ReaddirplusDone, TooSmall}
+use Rattle.nfs_model.specs.Types.{Caller, Listed, Readdir, Readdirplus, Ask, Success, Failed, ReaddirDone, ReaddirplusDone, TooSmall}
 use Rattle.nfs_model.specs.Server.{Server, VolumeState}
 use Rattle.nfs_model.specs.Serial.Readdir.{readdir}
 use Rattle.nfs_model.specs.Serial.Readdirplus.{readdirplus}
@@ -22,7 +22,7 @@ with_length count = holding 3 ((1, root_with 4 (of_length count ∷ [])) ∷ [])
 
 plus_fits_65432 :
     (serial (with_length 65292) (Ask (Readdirplus (h 1) 2 (replicate 8 0) 65536 65536) nobody) (at 1) false).reply
-    ≡ Success (ReaddirplusDone (root_shown 0 1) (record { entry = of_length 65292; attributes = None; handle = h 2 } ∷ []) true)
+    ≡ Success (ReaddirplusDone (root_shown 0 1) (record { entry = of_length 65292; attributes = None; handle = Some (h 2) } ∷ []) true)
 plus_fits_65432 = simp evaluate refl
 
 plus_does_not_fit_65436 : (serial (with_length 65293) (Ask (Readdirplus (h 1) 2 (replicate 8 0) 65536 65536) nobody) (at 1) false).reply
@@ -48,13 +48,13 @@ does_not_fit_65436 = simp evaluate refl
 at_most : (more : ℕ) → min (more + 65536) 65536 ≡ 65536
 at_most more = min-eq_right (omega arith)
 
-larger_count_of_readdirplus : (cookie : ℕ) (verifier : List ℕ) (names_count more : ℕ) (volume : VolumeState) (fileid : ℕ)
-    → readdirplus cookie verifier names_count (more + 65536) volume fileid ≡ readdirplus cookie verifier names_count 65536 volume fileid
-larger_count_of_readdirplus cookie verifier names_count more volume fileid = simp (at_most) refl
+larger_count_of_readdirplus : (cookie : ℕ) (verifier : List ℕ) (names_count more : ℕ) (caller : Caller) (volume : VolumeState) (fileid : ℕ)
+    → readdirplus cookie verifier names_count (more + 65536) caller volume fileid ≡ readdirplus cookie verifier names_count 65536 caller volume fileid
+larger_count_of_readdirplus cookie verifier names_count more caller volume fileid = simp (at_most) refl
 
-larger_count_of_names : (cookie : ℕ) (verifier : List ℕ) (more count : ℕ) (volume : VolumeState) (fileid : ℕ)
-    → readdirplus cookie verifier (more + 65536) count volume fileid ≡ readdirplus cookie verifier 65536 count volume fileid
-larger_count_of_names cookie verifier more count volume fileid = simp (at_most) refl
+larger_count_of_names : (cookie : ℕ) (verifier : List ℕ) (more count : ℕ) (caller : Caller) (volume : VolumeState) (fileid : ℕ)
+    → readdirplus cookie verifier (more + 65536) count caller volume fileid ≡ readdirplus cookie verifier 65536 count caller volume fileid
+larger_count_of_names cookie verifier more count caller volume fileid = simp (at_most) refl
 
 larger_count_of_readdir : (cookie : ℕ) (verifier : List ℕ) (more : ℕ) (volume : VolumeState) (fileid : ℕ)
     → readdir cookie verifier (more + 65536) volume fileid ≡ readdir cookie verifier 65536 volume fileid

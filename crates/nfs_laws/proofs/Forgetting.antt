@@ -12,7 +12,7 @@ use Rattle.nfs_model.specs.Serial.Remove.{remove_name}
 use Rattle.nfs_model.specs.Serial.Rmdir.{rmdir}
 use Rattle.nfs_model.specs.Serial.Step.{Step, stay, placed, on, on_two, serve}
 use Rattle.nfs_laws.specs.Repeated.{memos_in, memos_of, volume_of, serve_forgetting}
-use Rattle.nfs_laws.specs.lemmas.Effects.{Keeps, Ends, Telling, ends_tells, ends_changes, name_ends, setattr_ends, create_ends, mkdir_ends, remove_ends}
+use Rattle.nfs_laws.specs.lemmas.Effects.{Keeps, Ends, Telling, ends_tells, ends_changes, permitted_ends, permitted_two_ends, name_ends, setattr_ends, create_ends, mkdir_ends, remove_ends}
 use Rattle.nfs_laws.specs.lemmas.Effects.{rmdir_ends, rename_ends}
 use Rattle.nfs_laws.specs.lemmas.Served.{IsAt, IsIn, located, first_handle, volume_first}
 
@@ -91,20 +91,22 @@ pub forgetting : (server : Server) (call : model.Call) (who : model.Caller) (mom
     → ((change : Change) → change_of call ≡ Some change → memos_of server (volume_of change) ≡ [])
     → serve server call who moment ≡ serve_forgetting server call who moment
 forgetting server (model.Setattr handle set guard) who moment none =
-    on_forgotten server (model.Setattr handle set guard) who moment none _ handle _ _ refl (located server handle) (setattr_ends set guard moment)
+    on_forgotten server (model.Setattr handle set guard) who moment none _ handle _ _ refl (located server handle)
+    (permitted_ends Telling who (model.Setattr handle set guard) _ (setattr_ends set guard who moment))
 forgetting server (model.Create directory name mode) who moment none =
     on_forgotten server (model.Create directory name mode) who moment none _ directory _ _ refl (located server directory)
-    (λ v f. name_ends Telling name moment (create mode who.credential) v f (create_ends mode who.credential))
+    (permitted_ends Telling who (model.Create directory name mode) _
+    (λ v f. name_ends Telling name moment (create mode who) v f (create_ends mode who)))
 forgetting server (model.Mkdir directory name set) who moment none =
     on_forgotten server (model.Mkdir directory name set) who moment none _ directory _ _ refl (located server directory)
-    (λ v f. name_ends Telling name moment (mkdir set who.credential) v f (mkdir_ends set who.credential))
+    (permitted_ends Telling who (model.Mkdir directory name set) _ (λ v f. name_ends Telling name moment (mkdir set who) v f (mkdir_ends set who)))
 forgetting server (model.Remove directory name) who moment none =
     on_forgotten server (model.Remove directory name) who moment none _ directory _ _ refl (located server directory)
-    (λ v f. name_ends Telling name moment remove_name v f remove_ends)
+    (permitted_ends Telling who (model.Remove directory name) _ (λ v f. name_ends Telling name moment remove_name v f remove_ends))
 forgetting server (model.Rmdir directory name) who moment none =
     on_forgotten server (model.Rmdir directory name) who moment none _ directory _ _ refl (located server directory)
-    (λ v f. name_ends Telling name moment rmdir v f rmdir_ends)
+    (permitted_ends Telling who (model.Rmdir directory name) _ (λ v f. name_ends Telling name moment rmdir v f rmdir_ends))
 forgetting server (model.Rename from from_name to to_name) who moment none =
     two_forgotten server (model.Rename from from_name to to_name) who moment none _ from _ _ _ refl (located server from)
-    (rename_ends from_name to_name moment)
+    (permitted_two_ends Telling who (model.Rename from from_name to to_name) _ (rename_ends from_name to_name moment))
 forgetting server call who moment none = refl

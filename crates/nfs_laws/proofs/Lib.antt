@@ -14,6 +14,10 @@ pub mod KeptByFeed
 pub mod Walked
 pub mod Batches
 pub mod Remembering
+pub mod Refusals
+pub mod Strangers
+pub mod StrangersServed
+pub mod FileidsBelow
 pub mod Repeated
 pub mod Forgetting
 pub mod KeptByBlocks

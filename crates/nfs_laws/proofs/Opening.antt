@@ -38,7 +38,7 @@ once_free a d t none free = ap (λ b. one_if b + one_if b + one_if b + one_if d 
 opening_partition : (verifier : List ℕ) (k : ℕ) (l : VolumeLayout) → IsPartition (servers.opening_volume verifier k l) (opening_parts l) []
 opening_partition verifier k l = record {
   once = λ n. once_free (sets.contains (sets.empty {R = nat_cmp}) n) _ _ (contains_empty n) (contains_all (l.range_blocks * l.ranges) n);
-  in_files = set_len_empty ∙ sym (ap (λ es. servers.blocks_of es) (entries_sorted_list ((1, servers.root_node l.begun) ∷ []) refl));
+  in_files = set_len_empty ∙ sym (ap (λ es. servers.blocks_of es) (entries_sorted_list ((1, servers.root_node l.root l.begun) ∷ []) refl));
 }
 
 partition_at : (verifier : List ℕ) (k : ℕ) (ls : List VolumeLayout) (v : ℕ) (volume : servers.VolumeState)

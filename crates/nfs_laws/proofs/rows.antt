@@ -18,3 +18,8 @@ mod Beside
 mod Moving
 mod Answering
 mod Again
+mod Checked
+mod Permitted
+mod Named
+mod Owned
+mod Reading

@@ -2,4 +2,5 @@ pub mod Undisturbed
 pub mod Walk
 pub mod Sizes
 pub mod Repeated
+pub mod Permissions
 pub mod lemmas

@@ -7,6 +7,7 @@ use Rattle.nfs_model.specs.Memo.{Change, Sets, Creates, MakesDirectory, Removes,
 use Rattle.nfs_model.specs.Server.{VolumeState, Server, named_read}
 use Rattle.nfs_model.specs.Locate.{locate, on_name}
 use Rattle.nfs_model.specs.Serial.Absent.{absent_parts}
+use Rattle.nfs_model.specs.Serial.Permission.{permitted, permitted_two}
 use Rattle.nfs_model.specs.Serial.Once.{change_of, place, is_recent, told_among}
 use Rattle.nfs_model.specs.Serial.Setattr.{setattr}
 use Rattle.nfs_model.specs.Serial.Create.{create}
@@ -97,15 +98,21 @@ pub record IsAgain (first again : FinishedCall) : Type 0 where
 -- a call on a server that remembers none
 abbrev pub serve_forgetting : Server → Call → Caller → Moment → Step
 serve_forgetting server (Setattr handle set guard) caller moment =
-    on server (absent_parts (Setattr handle set guard)) (locate server handle) (setattr set guard moment)
+    on server (absent_parts (Setattr handle set guard)) (locate server handle)
+    (permitted caller (Setattr handle set guard) (setattr set guard caller moment))
 serve_forgetting server (Create directory name mode) caller moment =
-    on server (absent_parts (Create directory name mode)) (locate server directory) (on_name name moment (create mode caller.credential))
+    on server (absent_parts (Create directory name mode)) (locate server directory)
+    (permitted caller (Create directory name mode) (on_name name moment (create mode caller)))
 serve_forgetting server (Mkdir directory name set) caller moment =
-    on server (absent_parts (Mkdir directory name set)) (locate server directory) (on_name name moment (mkdir set caller.credential))
+    on server (absent_parts (Mkdir directory name set)) (locate server directory)
+    (permitted caller (Mkdir directory name set) (on_name name moment (mkdir set caller)))
 serve_forgetting server (Remove directory name) caller moment =
-    on server (absent_parts (Remove directory name)) (locate server directory) (on_name name moment remove_name)
+    on server (absent_parts (Remove directory name)) (locate server directory)
+    (permitted caller (Remove directory name) (on_name name moment remove_name))
 serve_forgetting server (Rmdir directory name) caller moment =
-    on server (absent_parts (Rmdir directory name)) (locate server directory) (on_name name moment rmdir)
+    on server (absent_parts (Rmdir directory name)) (locate server directory)
+    (permitted caller (Rmdir directory name) (on_name name moment rmdir))
 serve_forgetting server (Rename from from_name to to_name) caller moment =
-    on_two server (absent_parts (Rename from from_name to to_name)) (locate server from) (locate server to) (rename from_name to_name moment)
+    on_two server (absent_parts (Rename from from_name to to_name)) (locate server from) (locate server to)
+    (permitted_two caller (Rename from from_name to to_name) (rename from_name to_name moment))
 serve_forgetting server call caller moment = serve server call caller moment

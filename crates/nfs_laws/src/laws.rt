@@ -1,12 +1,26 @@
 //! What holds of the definitions.
 
 ghost use Rattle.std.specs.Prelude.{◌≡◌, ◌≢◌, true, false, Some, None, Result, ℕ};
-ghost use Rattle.std.specs.Prelude.{List, [], ◌∷◌, ◌++◌, length, slice_get};
+ghost use Rattle.std.specs.Prelude.{List, [], ◌∷◌, ◌++◌, length, nat_lt, slice_get};
 ghost use Rattle.std.specs.Ordering.{nat_cmp};
+ghost use Rattle.std.specs.FinMap.{get};
 ghost use Rattle.std.specs.FinSet.{FinSet};
-ghost use Rattle.nfs_model.specs.Types.{Call, Caller, Moment};
+ghost use Rattle.nfs_model.specs.Types.{Call, Caller, Moment, Kind, Listed};
+ghost use Rattle.nfs_model.specs.Types.{SetAttributes, Status, Failed};
 ghost use Rattle.nfs_model.specs.Tree.{Layout};
-ghost use Rattle.nfs_model.specs.Server.{opening, Server};
+ghost use Rattle.nfs_model.specs.Server.{opening, FileNode, DirectoryNode, Node};
+ghost use Rattle.nfs_model.specs.Server.{File, Directory, VolumeState, Server};
+ghost use Rattle.nfs_model.specs.Locate.{Effect};
+ghost use Rattle.nfs_model.specs.Serial.Absent.{absent_parts};
+ghost use Rattle.nfs_model.specs.Serial.Rights.{Protection, protection, Rights};
+ghost use Rattle.nfs_model.specs.Serial.Access.{bits_given};
+ghost use Rattle.nfs_model.specs.Serial.Setattr.{set_taken};
+ghost use Rattle.nfs_model.specs.Serial.Write.{clears_set_ids, file_taken};
+ghost use Rattle.nfs_model.specs.Serial.Create.{Maker, over_taken, new_attributes};
+ghost use Rattle.nfs_model.specs.Serial.Readdirplus.{listed_plus, listed_for};
+ghost use Rattle.nfs_model.specs.Serial.MountBelow.{search_refusal};
+ghost use Rattle.nfs_model.specs.Serial.Permission.{refusal, write_refusal};
+ghost use Rattle.nfs_model.specs.Serial.Permission.{permitted, permitted_two};
 ghost use Rattle.nfs_model.specs.Home.{home};
 ghost use Rattle.nfs_model.specs.Serial.Step.{serve, stay};
 ghost use Rattle.nfs_model.specs.Serial.AtOnce.{answer_without_home};
@@ -23,6 +37,9 @@ ghost use Rattle.nfs_model.specs.Memo.{Change};
 ghost use Rattle.nfs_model.specs.Serial.Once.{change_of};
 ghost use Rattle.nfs_laws.specs.Repeated.{Place, memos_of, places_of, volume_of, is_success};
 ghost use Rattle.nfs_laws.specs.Repeated.{remembered_in, AreElsewhere, IsAgain, serve_forgetting};
+ghost use Rattle.nfs_laws.specs.Permissions.{refused, remembered_of, IsFree, bits_of};
+ghost use Rattle.nfs_laws.specs.Permissions.{free_attributes, MayNotWrite, MayNotChange};
+ghost use Rattle.nfs_laws.specs.Permissions.{AreAskedBy, node_of, IsAsWas};
 ghost use Rattle.nfs_laws.specs.Sizes.{HaveSizes};
 ghost use Rattle.nfs_laws.specs.Undisturbed.{WorksNone};
 ghost use Rattle.nfs_laws.specs.Walk.{Walks};
@@ -165,4 +182,130 @@ pub fn without_places_none_is_told()
         → ((change : Change) → change_of call ≡ Some change
         → memos_of server (volume_of change) ≡ [])
         → serve server call caller moment ≡ serve_forgetting server call caller moment }
+{}
+
+/// To uid 0 no right is missing: it is refused nothing, unless it may change nothing.
+pub fn root_is_refused_nothing()
+    ensures asked { (caller : Caller) (call : Call) (volume : VolumeState) (fileid other : ℕ)
+        → caller.credential.uid ≡ 0
+        → caller.reads_only ≡ false
+        → refusal caller call volume fileid other ≡ None }
+    ensures served { (server : Server) (call : Call) (caller : Caller)
+        → caller.credential.uid ≡ 0
+        → caller.reads_only ≡ false
+        → refused server call caller ≡ None }
+    ensures mounts { (caller : Caller) (directory : DirectoryNode)
+        → caller.credential.uid ≡ 0
+        → caller.reads_only ≡ false
+        → search_refusal caller directory ≡ None }
+{}
+
+/// A call that is refused changes nothing, and is told why: unless it comes again, and what it was
+/// told first is remembered.
+pub fn refused_calls_change_nothing()
+    ensures left { (server : Server) (call : Call) (caller : Caller) (moment : Moment)
+        (status : Status)
+        → refused server call caller ≡ Some status
+        → (serve server call caller moment).server ≡ server }
+    ensures told { (server : Server) (call : Call) (caller : Caller) (moment : Moment)
+        (status : Status)
+        → refused server call caller ≡ Some status
+        → remembered_of server call caller moment ≡ None
+        → serve server call caller moment
+        ≡ stay server (Failed status (absent_parts call)) }
+{}
+
+/// A caller that isn't checked, and may change things, is refused nothing, and what it asks is done
+/// as it asks it.
+pub fn unchecked_callers_are_free()
+    ensures served { (server : Server) (call : Call) (caller : Caller)
+        → IsFree caller
+        → refused server call caller ≡ None }
+    ensures mounts { (caller : Caller) (directory : DirectoryNode)
+        → IsFree caller
+        → search_refusal caller directory ≡ None }
+    ensures one { (caller : Caller) (call : Call) (run : VolumeState → ℕ → Effect)
+        (volume : VolumeState) (fileid : ℕ)
+        → IsFree caller
+        → permitted caller call run volume fileid ≡ run volume fileid }
+    ensures two { (caller : Caller) (call : Call) (run : VolumeState → ℕ → ℕ → Effect)
+        (volume : VolumeState) (from to : ℕ)
+        → IsFree caller
+        → permitted_two caller call run volume from to ≡ run volume from to }
+    ensures sets { (caller : Caller) (set : SetAttributes) (node : Node)
+        → caller.checked ≡ false
+        → set_taken caller set node ≡ set }
+    ensures over { (caller : Caller) (set : SetAttributes)
+        → caller.checked ≡ false
+        → over_taken caller set ≡ set }
+    ensures writes { (caller : Caller) (file : FileNode)
+        → caller.checked ≡ false
+        → file_taken caller file ≡ file }
+    ensures clears { (caller : Caller) (file : FileNode)
+        → caller.checked ≡ false
+        → clears_set_ids caller file ≡ false }
+    ensures written { (caller : Caller) (file : Protection)
+        → IsFree caller
+        → write_refusal caller file ≡ None }
+    ensures makes { (set : SetAttributes) (kind : Kind) (mode : ℕ) (maker : Maker)
+        (moment : Moment)
+        → maker.caller.checked ≡ false
+        → new_attributes set kind mode maker moment
+        ≡ free_attributes set mode maker moment }
+    ensures lists { (caller : Caller) (volume : VolumeState) (directory : DirectoryNode)
+        (entry : Listed)
+        → caller.checked ≡ false
+        → listed_for caller volume directory entry ≡ listed_plus volume entry }
+    ensures rights { (caller : Caller) (asked : ℕ) (kind : Kind) (rights : Rights)
+        → IsFree caller
+        → bits_given caller asked kind rights ≡ bits_of asked kind rights }
+{}
+
+/// At any time of a run, the fileid of a node is below the next one that is given.
+pub fn fileids_lie_below_the_next()
+    ensures { (layout : Layout) (verifier : List ℕ) (calls : List FinishedCall)
+        (volume fileid : ℕ) (state : VolumeState) (node : Node)
+        → slice_get (server_after (opening layout verifier) calls).volumes volume ≡ Some state
+        → get state.nodes fileid ≡ Some node
+        → nat_lt fileid state.next ≡ true }
+{}
+
+/// While strangers alone call, a directory keeps its names, its mode, its owner and its group, as
+/// long as it is there: callers that are checked, are neither uid 0 nor its owner, and haven't both
+/// w and x of it. So it is on any server whose fileids are below the next one, and at any time of a
+/// run.
+pub fn strangers_change_no_names()
+    ensures any { (server : Server) (volume fileid : ℕ) (state : VolumeState)
+        (directory : DirectoryNode) (calls : List FinishedCall)
+        → slice_get server.volumes volume ≡ Some state
+        → get state.nodes fileid ≡ Some (Directory directory)
+        → nat_lt fileid state.next ≡ true
+        → AreAskedBy (MayNotChange (protection (Directory directory))) calls
+        → IsAsWas (Directory directory) (node_of (server_after server calls) volume fileid) }
+    ensures run { (layout : Layout) (verifier : List ℕ) (before after : List FinishedCall)
+        (volume fileid : ℕ) (directory : DirectoryNode)
+        → node_of (server_after (opening layout verifier) before) volume fileid
+        ≡ Some (Directory directory)
+        → AreAskedBy (MayNotChange (protection (Directory directory))) after
+        → IsAsWas (Directory directory)
+        (node_of (server_after (opening layout verifier) (before ++ after)) volume fileid) }
+{}
+
+/// While strangers alone call, a file keeps its bytes, its mode, its owner and its group, as long as
+/// it is there: callers that are checked, are neither uid 0 nor its owner, and haven't w of it.
+pub fn strangers_change_no_bytes()
+    ensures any { (server : Server) (volume fileid : ℕ) (state : VolumeState) (file : FileNode)
+        (calls : List FinishedCall)
+        → slice_get server.volumes volume ≡ Some state
+        → get state.nodes fileid ≡ Some (File file)
+        → nat_lt fileid state.next ≡ true
+        → AreAskedBy (MayNotWrite (protection (File file))) calls
+        → IsAsWas (File file) (node_of (server_after server calls) volume fileid) }
+    ensures run { (layout : Layout) (verifier : List ℕ) (before after : List FinishedCall)
+        (volume fileid : ℕ) (file : FileNode)
+        → node_of (server_after (opening layout verifier) before) volume fileid
+        ≡ Some (File file)
+        → AreAskedBy (MayNotWrite (protection (File file))) after
+        → IsAsWas (File file)
+        (node_of (server_after (opening layout verifier) (before ++ after)) volume fileid) }
 {}

@@ -1,6 +1,7 @@
 -- The serial server: one case for each procedure, each in a file of its own, in the order of checks
 -- of our profile.
 pub mod Absent
+pub mod Rights
 pub mod Getattr
 pub mod Setattr
 pub mod Lookup
@@ -23,6 +24,7 @@ pub mod Grow
 pub mod Mount
 pub mod MountBelow
 pub mod Same
+pub mod Permission
 pub mod Once
 pub mod Step
 pub mod AtOnce

@@ -6,7 +6,7 @@ use Rattle.std.specs.Ordering.{nat_cmp}
 use Rattle.std.specs.FinMap.{FinMap, entries, from_sorted}
 use Rattle.std.specs.FinSet.{FinSet}
 use Rattle.std.specs.FinSet as sets
-use Rattle.nfs_model.specs.Types.{Moment, Listed}
+use Rattle.nfs_model.specs.Types.{Moment, Ownership, Listed}
 use Rattle.nfs_model.specs.Tree.{Layout, VolumeLayout}
 use Rattle.nfs_model.specs.Memo.{Memo}
 
@@ -74,13 +74,17 @@ most_bytes = 65536
 abbrev pub start_of_times : Moment
 start_of_times = record { seconds = 0; nanoseconds = 0 }
 
--- the root as it begins at a moment, its own parent, with mode 0755 (octal)
-abbrev pub root_node : Moment → Node
-root_node moment = Directory (record {
+-- a root of uid 0 with mode 0755 (octal)
+abbrev pub root_of_root : Ownership
+root_of_root = record { mode = 493; uid = 0; gid = 0 }
+
+-- the root as it begins at a moment, its own parent
+abbrev pub root_node : Ownership → Moment → Node
+root_node owner moment = Directory (record {
   attributes = record {
-    mode = 493;
-    uid = 0;
-    gid = 0;
+    mode = owner.mode;
+    uid = owner.uid;
+    gid = owner.gid;
     atime = moment;
     mtime = moment;
     ctime = moment;
@@ -102,7 +106,7 @@ opening_volume verifier number layout = record {
   most_steps = layout.most_steps;
   verifier = verifier;
   next = 2;
-  nodes = from_sorted ((1, root_node layout.begun) ∷ []);
+  nodes = from_sorted ((1, root_node layout.root layout.begun) ∷ []);
   memos = replicate layout.remembered None;
 }
 

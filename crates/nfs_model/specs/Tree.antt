@@ -1,7 +1,7 @@
 -- The layout of a run, and the tree of affinities over it (our profile).
 use Rattle.std.specs.Prelude.{ℕ, Bool, true, false, ◌&&◌, ◌||◌, ◌==◌, List, [], ◌∷◌, Option, Some, None}
 use Rattle.std.specs.Prelude.{slice_get}
-use Rattle.nfs_model.specs.Types.{Moment}
+use Rattle.nfs_model.specs.Types.{Moment, Ownership}
 
 -- a volume as it is laid out at the start
 pub record VolumeLayout : Type 0 where
@@ -13,6 +13,7 @@ pub record VolumeLayout : Type 0 where
   pub inodes : ℕ  -- at most, the root with them
   pub most_steps : ℕ  -- of directories whose parents a RENAME looks at
   pub begun : Moment  -- the beginning of the run: the times of its root
+  pub root : Ownership  -- of its root, as the run begins
   pub remembered : ℕ  -- the most replies that are remembered for calls that come again
 
 -- aggregates and volumes, each numbered from 0

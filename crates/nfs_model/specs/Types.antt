@@ -24,6 +24,16 @@ pub record Caller : Type 0 where
   pub credential : Credential
   pub xid : ℕ
   pub peer : ℕ  -- the address and port that it comes from, as one number; 0 where there is none
+  pub checked : Bool  -- whether the owner, the groups and the mode of objects are asked (our profile)
+  pub reads_only : Bool  -- whether it may change nothing (our profile)
+
+-- ---- what is owned
+
+-- of an object: its mode, its owner and its group (fattr3, RFC 1813 section 2.6)
+pub record Ownership : Type 0 where
+  pub mode : ℕ
+  pub uid : ℕ
+  pub gid : ℕ
 
 -- ---- what is asked
 
@@ -100,6 +110,7 @@ pub data Call : Type 0 where
 
 -- nfsstat3, but for OK (RFC 1813 section 2.5)
 pub data Status : Type 0 where
+  NotPermitted : Status
   NoEntry : Status
   Access : Status
   Exists : Status
@@ -109,6 +120,7 @@ pub data Status : Type 0 where
   Invalid : Status
   TooBig : Status
   NoSpace : Status
+  ReadOnly : Status
   NameTooLong : Status
   NotEmpty : Status
   Stale : Status
@@ -120,6 +132,7 @@ pub data Status : Type 0 where
 
 -- its number (RFC 1813 section 2.5)
 abbrev pub status_word : Status → ℕ
+status_word NotPermitted = 1
 status_word NoEntry = 2
 status_word Access = 13
 status_word Exists = 17
@@ -129,6 +142,7 @@ status_word IsDirectory = 21
 status_word Invalid = 22
 status_word TooBig = 27
 status_word NoSpace = 28
+status_word ReadOnly = 30
 status_word NameTooLong = 63
 status_word NotEmpty = 66
 status_word Stale = 70
@@ -175,11 +189,11 @@ pub record Listed : Type 0 where
   pub name : List ℕ
   pub fileid : ℕ
 
--- entryplus3 (RFC 1813 section 3.3.17), whose handle is always there
+-- entryplus3 (RFC 1813 section 3.3.17)
 pub record ListedPlus : Type 0 where
   pub entry : Listed
   pub attributes : Option Shown
-  pub handle : List ℕ
+  pub handle : Option (List ℕ)
 
 -- the numbers of FSSTAT (RFC 1813 section 3.3.18), of which the free and the available are the same
 pub record Space : Type 0 where
@@ -212,7 +226,7 @@ pub data Answer : Type 0 where
   ReaddirplusDone : (directory : Shown) (page : List ListedPlus) (eof : Bool) → Answer
   FsstatDone : (object : Shown) (space : Space) → Answer
   FsinfoDone : (object : Shown) (largest : ℕ) → Answer
-  PathconfDone : (object : Shown) → Answer
+  PathconfDone : (object : Shown) (chown_restricted : Bool) → Answer
   CommitDone : (file : Wcc) (verifier : List ℕ) → Answer
   CensusDone : (volumes : List VolumeCount) → Answer
   GrowDone : (total : ℕ) → Answer

@@ -4,11 +4,13 @@ use Rattle.std.specs.Prelude.{◌≡◌, ℕ, ◌+◌, min, Bool, false, not, �
 use Rattle.std.specs.Prelude.{length, Option, Some, None, is_some, is_none, slice_get, slice_set}
 use Rattle.std.specs.Prelude.{if◌then◌else◌}
 use Rattle.std.specs.FinSet.{len}
-use Rattle.nfs_model.specs.Types.{Moment, Call, Write, Grow, Asked, Ask, Refused, Undecoded, Reply}
+use Rattle.nfs_model.specs.Types.{Moment, Caller, Call, Write, Grow, Asked, Ask, Refused, Undecoded, Reply}
 use Rattle.nfs_model.specs.Tree.{Affinity, Serial, Aggregate, Volume, Logical, Stripe, Vbn, Range}
 use Rattle.nfs_model.specs.Server.{FileNode, Node, File, Directory, VolumeState, Server, most_bytes}
 use Rattle.nfs_model.specs.Locate.{Located, locate, node_named}
-use Rattle.nfs_model.specs.Serial.Write.{need, write_fault, space_fault}
+use Rattle.nfs_model.specs.Serial.Rights.{protection}
+use Rattle.nfs_model.specs.Serial.Permission.{write_refusal}
+use Rattle.nfs_model.specs.Serial.Write.{need, write_fault, space_fault, clears_set_ids}
 use Rattle.nfs_model.specs.Serial.Step.{Step, serial}
 use Rattle.nfs_model.specs.Serial.Starve.{may_starve_later}
 use Rattle.nfs_model.specs.Parts.{Parts}
@@ -37,40 +39,43 @@ pub data Outcome : Type 0 where
 pub record Ready : Type 0 where
   pub need : ℕ
   pub extends : Bool
+  pub clears : Bool  -- the set-id bits of its mode
   pub fits : Bool
 
 -- a WRITE of n bytes, at least one, at an offset of a file
-abbrev pub ready_bytes : VolumeState → FileNode → ℕ → ℕ → Option Ready
-ready_bytes volume f offset n =
+abbrev pub ready_bytes : VolumeState → Caller → FileNode → ℕ → ℕ → Option Ready
+ready_bytes volume caller f offset n =
     if is_some (write_fault volume offset n) then None
     else Some (record {
       need = need f offset n;
       extends = nat_lt (length f.bytes) (offset + n);
+      clears = clears_set_ids caller f;
       fits = is_none (space_fault volume f offset n);
     })
 
--- a WRITE to a file, with the count that was given and the length of the data
-abbrev pub ready_file : VolumeState → FileNode → ℕ → ℕ → ℕ → Option Ready
-ready_file volume f offset given n =
-    if not (given == n) then None
+-- a WRITE to a file, with the count that was given and the length of the data; one that is refused isn't ready
+abbrev pub ready_file : VolumeState → Caller → FileNode → ℕ → ℕ → ℕ → Option Ready
+ready_file volume caller f offset given n =
+    if is_some (write_refusal caller (protection (File f))) then None
+    else if not (given == n) then None
     else if given == 0 then None
-    else ready_bytes volume f offset (min given most_bytes)
+    else ready_bytes volume caller f offset (min given most_bytes)
 
 -- a WRITE to a node, if it is there
-abbrev pub ready : Option Located → Option Node → ℕ → ℕ → ℕ → Option Ready
-ready None there offset given n = None
-ready (Some l) None offset given n = None
-ready (Some l) (Some (File f)) offset given n = ready_file l.volume f offset given n
-ready (Some l) (Some (Directory d)) offset given n = None
+abbrev pub ready : Option Located → Option Node → Caller → ℕ → ℕ → ℕ → Option Ready
+ready None there caller offset given n = None
+ready (Some l) None caller offset given n = None
+ready (Some l) (Some (File f)) caller offset given n = ready_file l.volume caller f offset given n
+ready (Some l) (Some (Directory d)) caller offset given n = None
 
 -- a WRITE to what a handle names
-abbrev pub ready_at : Option Located → ℕ → ℕ → ℕ → Option Ready
-ready_at there offset given n = ready there (node_named there) offset given n
+abbrev pub ready_at : Option Located → Caller → ℕ → ℕ → ℕ → Option Ready
+ready_at there caller offset given n = ready there (node_named there) caller offset given n
 
--- a ready WRITE moves from a Stripe where it would extend or fill, from Logical where the stock is
+-- a ready WRITE moves from a Stripe where it would extend, fill, or change the mode, from Logical where the stock is
 -- short, from Volume where it fits and stock, free and dead together are short, since the rest is in hands
 abbrev pub move_by : Option Parts → Affinity → Ready → Option Affinity
-move_by parts (Stripe v i) r = if r.extends || nat_lt 0 r.need then Some (Logical v) else None
+move_by parts (Stripe v i) r = if r.extends || r.clears || nat_lt 0 r.need then Some (Logical v) else None
 move_by None affinity r = None
 move_by (Some p) (Logical v) r = if nat_lt (len p.stock) r.need then Some (Volume v) else None
 move_by (Some p) (Volume v) r =
@@ -98,15 +103,15 @@ parts_at parts None = None
 parts_at parts (Some v) = slice_get parts v
 
 -- where a call moves, if it moves
-abbrev pub move_of_call : Store → Affinity → Call → Option Affinity
-move_of_call store affinity (Write handle offset count written) =
+abbrev pub move_of_call : Store → Affinity → Call → Caller → Option Affinity
+move_of_call store affinity (Write handle offset count written) caller =
     move_if (parts_at store.parts (volume_above affinity)) affinity
-    (ready_at (locate store.server handle) offset count (length written))
-move_of_call store affinity call = None
+    (ready_at (locate store.server handle) caller offset count (length written))
+move_of_call store affinity call caller = None
 
 -- where what a record asks moves
 abbrev pub move_of_asked : Store → Affinity → Asked → Option Affinity
-move_of_asked store affinity (Ask call caller) = move_of_call store affinity call
+move_of_asked store affinity (Ask call caller) = move_of_call store affinity call caller
 move_of_asked store affinity (Refused reply) = None
 move_of_asked store affinity Undecoded = None
 

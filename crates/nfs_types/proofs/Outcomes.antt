@@ -90,8 +90,8 @@ pub info_bytes : (result : Result FilesystemInfoResults Status)
 info_bytes = arm fsinfo_shape (λ r. fsinfo_value (shown_of r.root) r.largest) info_told 1 (λ r. refl)
 
 pub path_bytes : (result : Result PathConfigurationResults Status)
-    → answer_bytes (result_of path_told 1 result) ≡ result_bytes pathconf_shape (λ r. pathconf_value (shown_of r.object)) 1 result
-path_bytes = arm pathconf_shape (λ r. pathconf_value (shown_of r.object)) path_told 1 (λ r. refl)
+    → answer_bytes (result_of path_told 1 result) ≡ result_bytes pathconf_shape (λ r. pathconf_value (shown_of r.object) r.is_chown_restricted) 1 result
+path_bytes = arm pathconf_shape (λ r. pathconf_value (shown_of r.object) r.is_chown_restricted) path_told 1 (λ r. refl)
 
 pub committed_bytes : (result : Result CommitResults Status)
     → answer_bytes (result_of file_committed 2 result) ≡ result_bytes commit_shape (λ r. commit_value (change_of r.file) r.verifier.0) 2 result

@@ -74,7 +74,7 @@ abbrev pub entry_plus_shape : Shape
 entry_plus_shape = Hyper & any_bytes & Hyper & after_shape & Optional handle_shape
 
 abbrev pub entry_plus_value : model.ListedPlus → Value entry_plus_shape
-entry_plus_value e = (e.entry.fileid, (e.entry.name, (e.entry.cookie, (option_map attributes_value e.attributes, Some e.handle))))
+entry_plus_value e = (e.entry.fileid, (e.entry.name, (e.entry.cookie, (option_map attributes_value e.attributes, e.handle))))
 
 -- READDIRPLUS3resok (section 3.3.17): the directory's attributes, cookieverf, and the list of entries with eof
 abbrev pub readdirplus_shape : Shape
@@ -110,10 +110,10 @@ fsinfo_value root largest = (
 abbrev pub pathconf_shape : Shape
 pathconf_shape = after_shape & Word & Word & Boolean & Boolean & Boolean & Boolean
 
--- no links are made; a name of more than 255 bytes is refused, not cut; anybody may change owners, since no call is refused for want of a
--- permission; names that differ in case differ, and are kept as they came (our profile)
-abbrev pub pathconf_value : model.Shown → Value pathconf_shape
-pathconf_value object = (Some (attributes_value object), (1, (255, (true, (false, (false, true))))))
+-- no links are made; a name of more than 255 bytes is refused, not cut; names that differ in case differ, and are kept as they came (our
+-- profile)
+abbrev pub pathconf_value : model.Shown → Bool → Value pathconf_shape
+pathconf_value object chown_restricted = (Some (attributes_value object), (1, (255, (true, (chown_restricted, (false, true))))))
 
 -- COMMIT3resok (section 3.3.21): wcc_data and verf
 abbrev pub commit_shape : Shape
@@ -190,7 +190,7 @@ answer_bytes (model.ReaddirDone directory page eof) = done readdir_shape (readdi
 answer_bytes (model.ReaddirplusDone directory page eof) = done readdirplus_shape (readdirplus_value directory page eof)
 answer_bytes (model.FsstatDone root space) = done fsstat_shape (fsstat_value root space)
 answer_bytes (model.FsinfoDone root largest) = done fsinfo_shape (fsinfo_value root largest)
-answer_bytes (model.PathconfDone object) = done pathconf_shape (pathconf_value object)
+answer_bytes (model.PathconfDone object chown_restricted) = done pathconf_shape (pathconf_value object chown_restricted)
 answer_bytes (model.CommitDone file verifier) = done commit_shape (commit_value file verifier)
 answer_bytes (model.CensusDone volumes) = spelling census_shape (map count_value volumes)
 answer_bytes (model.GrowDone total) = done Hyper total

@@ -172,7 +172,7 @@ const MOST_NAME: u32 = 255;
 impl Encode for PathConfigurationResults {
     ghost shape = { pathconf_shape };
 
-    ghost value = { λ r. pathconf_value (shown_of r.object) };
+    ghost value = { λ r. pathconf_value (shown_of r.object) r.is_chown_restricted };
 
     fn size(&self) -> usize {
         size_of_present(&self.object) + 6 * 4
@@ -181,7 +181,7 @@ impl Encode for PathConfigurationResults {
     fn write(&self, out: &mut Vec<u8>) {
         write_present(&self.object, out);
         let no_trunc = true;
-        let chown_restricted = false;
+        let chown_restricted = self.is_chown_restricted;
         let case_insensitive = false;
         let case_preserving = true;
         let flags = (

@@ -18,13 +18,13 @@ impl Encode for DirectoryEntryPlus {
     ghost value = { λ e. entry_plus_value (entry_plus_of e) };
 
     fn size(&self) -> usize {
-        self.entry.size() + self.attributes.size() + size_of_present(&self.handle)
+        self.entry.size() + self.attributes.size() + self.handle.size()
     }
 
     fn write(&self, out: &mut Vec<u8>) {
         self.entry.write(out);
         self.attributes.write(out);
-        write_present(&self.handle, out);
+        self.handle.write(out);
     }
 }
 

@@ -71,7 +71,7 @@ entry_of e = record { cookie = e.cookie.0; name = e.name; fileid = e.fileid.0 }
 abbrev pub entries_listed : ReadDirectoryResults → model.Answer
 entries_listed r = model.ReaddirDone (shown_of r.directory) (map entry_of r.entries.items) r.eof
 
--- an entry of a directory, with the attributes and the handle of what it names
+-- an entry of a directory, with the attributes and the handle of what it names, where they are told
 abbrev pub entry_plus_of : DirectoryEntryPlus → model.ListedPlus
 entry_plus_of e = record {
   entry = entry_of e.entry;
@@ -99,7 +99,7 @@ abbrev pub info_told : FilesystemInfoResults → model.Answer
 info_told r = model.FsinfoDone (shown_of r.root) r.largest
 
 abbrev pub path_told : PathConfigurationResults → model.Answer
-path_told r = model.PathconfDone (shown_of r.object)
+path_told r = model.PathconfDone (shown_of r.object) r.is_chown_restricted
 
 abbrev pub file_committed : CommitResults → model.Answer
 file_committed r = model.CommitDone (change_of r.file) r.verifier.0

@@ -10,4 +10,10 @@ peer_of p = p.address * 65536 + p.port
 
 -- who makes a call, as the model has it
 abbrev pub caller_of : Caller → model.Caller
-caller_of c = record { credential = credential_of c.credential; xid = c.xid; peer = peer_of c.peer }
+caller_of c = record {
+  credential = credential_of c.credential;
+  xid = c.xid;
+  peer = peer_of c.peer;
+  checked = c.is_checked;
+  reads_only = c.reads_only;
+}

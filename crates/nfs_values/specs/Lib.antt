@@ -5,6 +5,8 @@ pub mod Name
 pub mod Handle
 pub mod Credential
 pub mod Caller
+pub mod Ownership
+pub mod Standing
 pub mod Status
 pub mod Unsupported
 pub mod Attributes

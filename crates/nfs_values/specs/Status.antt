@@ -1,10 +1,12 @@
 use Rattle.nfs_model.specs.Types as model
 use Rattle.nfs_values.specs.declared.status.Status.{Status}
-use Rattle.nfs_values.specs.declared.status.Status.TheVariants.{NoEntry, Access, Exists, CrossVolume, NotDirectory, IsDirectory, Invalid, TooBig, NoSpace}
-use Rattle.nfs_values.specs.declared.status.Status.TheVariants.{NameTooLong, NotEmpty, Stale, BadHandle, NotSynchronous, BadCookie, NotSupported, TooSmall}
+use Rattle.nfs_values.specs.declared.status.Status.TheVariants.{NotPermitted, NoEntry, Access, Exists, CrossVolume, NotDirectory, IsDirectory, Invalid}
+use Rattle.nfs_values.specs.declared.status.Status.TheVariants.{TooBig, NoSpace, ReadOnly, NameTooLong, NotEmpty, Stale, BadHandle, NotSynchronous}
+use Rattle.nfs_values.specs.declared.status.Status.TheVariants.{BadCookie, NotSupported, TooSmall}
 
 -- a status, as the model has it
 abbrev pub status_of : Status → model.Status
+status_of NotPermitted = model.NotPermitted
 status_of NoEntry = model.NoEntry
 status_of Access = model.Access
 status_of Exists = model.Exists
@@ -14,6 +16,7 @@ status_of IsDirectory = model.IsDirectory
 status_of Invalid = model.Invalid
 status_of TooBig = model.TooBig
 status_of NoSpace = model.NoSpace
+status_of ReadOnly = model.ReadOnly
 status_of NameTooLong = model.NameTooLong
 status_of NotEmpty = model.NotEmpty
 status_of Stale = model.Stale

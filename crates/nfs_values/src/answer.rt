@@ -93,7 +93,7 @@ impl Drop for ReadDirectoryResults {
 pub struct DirectoryEntryPlus {
     pub entry: DirectoryEntry,
     pub attributes: Option<Attributes>,
-    pub handle: FileHandle,
+    pub handle: Option<FileHandle>,
 }
 
 /// READDIRPLUS3resok (RFC 1813 section 3.3.17); its verifier is zero.
@@ -136,6 +136,8 @@ pub struct FilesystemInfoResults {
 #[derive(Clone, Copy)]
 pub struct PathConfigurationResults {
     pub object: Attributes,
+    /// Whether owners and groups are changed by some callers alone.
+    pub is_chown_restricted: bool,
 }
 
 /// COMMIT3resok (RFC 1813 section 3.3.21).

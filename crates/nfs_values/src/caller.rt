@@ -26,13 +26,19 @@ pub struct Caller {
     /// The number of its record.
     pub xid: u32,
     pub peer: PeerAddress,
+    /// Whether the owner, the groups and the mode of objects are asked.
+    pub is_checked: bool,
+    /// Whether it may change nothing.
+    pub reads_only: bool,
 }
 
 impl Caller {
-    /// Who makes a call without a credential, of number 0 and over no connection.
+    /// Who makes a call without a credential, of number 0, over no connection, and isn't checked.
     pub const NOBODY: Caller = Caller {
         credential: Credential::NOBODY,
         xid: 0,
         peer: PeerAddress::NONE,
+        is_checked: false,
+        reads_only: false,
     };
 }

@@ -1,6 +1,8 @@
 //! Whom a call acts for.
 
-ghost use Rattle.std.specs.Prelude.{◌≡◌, ◌<◌, ◌++◌, ◌∷◌, ◌==◌, [], length};
+ghost use Rattle.std.specs.Prelude.{◌≡◌, ◌<◌, ◌++◌, ◌∷◌, ◌==◌, [], length, map};
+ghost use Rattle.std.specs.Prelude.{if◌then◌else◌};
+ghost use Rattle.nfs_model.specs.Standing.{is_none};
 ghost use Rattle.std.specs.List.{list_any};
 ghost use Rattle.nfs_model.specs.Names.{same_name};
 ghost use Rattle.nfs_values.specs.Credential.{gids_in};
@@ -35,6 +37,22 @@ fn has_places(gids: [u32; MOST_GIDS])
     ensures { length gids ≡ 16 }
 {}
 
+/// A group, or another one where it is 0.
+fn unless_zero(gid: u32, other: u32) -> u32
+    ensures { result ≡ (if gid == 0 then other else gid) }
+{
+    if gid == 0 { other } else { gid }
+}
+
+/// Puts another group in the place of 0.
+fn put_for_zero(gids: &mut [u32], other: u32)
+    ensures { gids.new ≡ map (λ g. if g == 0 then other else g) gids.old }
+{
+    for gid in gids.iter_mut() {
+        *gid = unless_zero(*gid, other);
+    }
+}
+
 impl GroupList {
     /// No group.
     pub const NONE: GroupList = GroupList {
@@ -55,6 +73,22 @@ impl GroupList {
             gids,
             count: count + 1,
         }
+    }
+
+    /// Whether there are none.
+    pub fn is_none(&self) -> bool
+        ensures { result ≡ is_none (gids_in self.now) }
+    {
+        self.count == 0
+    }
+
+    /// These groups, with another one in place of 0.
+    pub fn with_zero_as(self, other: u32) -> GroupList
+        ensures { gids_in result ≡ map (λ g. if g == 0 then other else g) (gids_in self) }
+    {
+        let GroupList { mut gids, count } = self;
+        put_for_zero(&mut gids, other);
+        GroupList { gids, count }
     }
 
     /// Whether a group is among them.

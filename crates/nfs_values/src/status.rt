@@ -5,6 +5,7 @@ ghost use Rattle.std.specs.Prelude.{◌≡◌};
 /// Why a call failed (nfsstat3 without NFS3_OK, RFC 1813 section 2.5).
 #[derive(Clone, Copy, Debug, PartialEq, Eq)]
 pub enum Status {
+    NotPermitted = 1,
     NoEntry = 2,
     Access = 13,
     Exists = 17,
@@ -14,6 +15,7 @@ pub enum Status {
     Invalid = 22,
     TooBig = 27,
     NoSpace = 28,
+    ReadOnly = 30,
     NameTooLong = 63,
     NotEmpty = 66,
     Stale = 70,

@@ -1,7 +1,7 @@
 -- How many bytes results take that have bytes, lists or handles of any number.
 use Rattle.std.proofs.Common.{◌≡◌, ◌^◌, ℕ, min, take, Option, Some, None, ◌+◌, ◌-◌, ◌*◌, ◌≤◌, Bool, true, false}
 use Rattle.std.proofs.Common.{cond, List, [], ◌∷◌, ◌++◌, length, map, replicate, refl, sym, subst, ap, ◌∙◌, arith}
-use Rattle.std.specs.Prelude.{nat_le}
+use Rattle.std.specs.Prelude.{nat_le, IfSome}
 use Rattle.std.specs.Option.{option_map}
 use Rattle.std.proofs.lemmas.Bool.{leb-true}
 use Rattle.std.proofs.lemmas.List.{length-append, length-replicate, length-take}
@@ -131,19 +131,24 @@ IsShort e told = length (spelling entry_plus_shape (entry_plus_value told)) + 12
 attributes_told : Option model.Shown → List ℕ
 attributes_told attributes = spelling after_shape (option_map attributes_value attributes)
 
-handle_told : List ℕ → List ℕ
-handle_told handle = spelling (Optional handle_shape) (Some handle)
+handle_told : Option (List ℕ) → List ℕ
+handle_told handle = spelling (Optional handle_shape) handle
 
 length-attributes : (attributes : Option model.Shown) → length (attributes_told attributes) ≤ 88
 unfolding attributes_told
 length-attributes None = omega arith
 length-attributes (Some a) = omega arith
 
-length-handle : (handle : List ℕ) → length handle ≤ 12 → length (handle_told handle) ≤ 20
-unfolding handle_told
-length-handle handle h = omega (arith, length-padded handle, padded_more (length handle) 12 h)
+-- a handle, if there is one, has at most 12 bytes
+abbrev pub IsShortHandle : Option (List ℕ) → Type 0
+IsShortHandle handle = IfSome handle (λ (bytes : List ℕ). length bytes ≤ 12)
 
-length-optional : (handle : List ℕ) → length (handle_told handle) ≡ 8 + length (padded handle)
+length-handle : (handle : Option (List ℕ)) → IsShortHandle handle → length (handle_told handle) ≤ 20
+unfolding handle_told
+length-handle None h = omega arith
+length-handle (Some handle) h = omega (arith, length-padded handle, padded_more (length handle) 12 h)
+
+length-optional : (handle : List ℕ) → length (handle_told (Some handle)) ≡ 8 + length (padded handle)
 unfolding handle_told
 length-optional handle = omega arith
 
@@ -153,11 +158,10 @@ length-entry_plus : (t : model.ListedPlus)
 unfolding attributes_told handle_told
 length-entry_plus t =
     let attributes = spelling after_shape (option_map attributes_value t.attributes) in
-    let handle = spelling (Optional handle_shape) (Some t.handle) in
+    let handle = spelling (Optional handle_shape) t.handle in
     omega (arith, length-append (padded t.entry.name) (hyper t.entry.cookie ++ (attributes ++ handle)), length-append attributes handle)
 
--- a handle of at most 12 bytes
-pub entry_is_short : (e : model.Listed) (attributes : Option model.Shown) (handle : List ℕ) → length handle ≤ 12
+pub entry_is_short : (e : model.Listed) (attributes : Option model.Shown) (handle : Option (List ℕ)) → IsShortHandle handle
     → IsShort e (record { entry = e; attributes = attributes; handle = handle })
 entry_is_short e attributes handle h =
     omega (
@@ -224,8 +228,10 @@ handle_more run handle rest =
     omega (arith, a, b, c, length-padded handle, told_padded (length handle))
 
 -- a handle, an entry and a page, as they are told, take 8 bytes more at most, a page of them 8 for each
-told_handle : (run : ℕ) (handle : List ℕ) → length (handle_told (told_in_run run handle)) ≤ 8 + length (handle_told handle)
-told_handle run handle =
+told_handle : (run : ℕ) (handle : Option (List ℕ))
+    → length (handle_told (option_map (told_in_run run) handle)) ≤ 8 + length (handle_told handle)
+told_handle run None = omega arith
+told_handle run (Some handle) =
     let c = length-padded (told_in_run run handle) ∙ ap padded_size (length-told run handle) in
     omega (
       arith,
@@ -243,7 +249,7 @@ told_entry run t =
     let front = 20 + length (padded t.entry.name) in
     let attributes = length (attributes_told t.attributes) in
     let old = length (handle_told t.handle) in
-    let new = length (handle_told (told_in_run run t.handle)) in
+    let new = length (handle_told (option_map (told_in_run run) t.handle)) in
     let more : new ≤ 8 + old = told_handle run t.handle in
     let both : front + (attributes + new) ≤ 8 + (front + (attributes + old)) = omega (arith, more) in
     subst (λ (n : ℕ). n ≤ 8 + length (spelling entry_plus_shape (entry_plus_value t))) (sym (length-entry_plus (listed_with (told_in_run run) t)))

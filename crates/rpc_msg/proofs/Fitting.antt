@@ -1,7 +1,7 @@
 -- The reply to a call has its room, and the server after it is as roomy.
 use Rattle.std.proofs.Common.{◌≡◌, ℕ, zero, suc, ◌+◌, ◌-◌, ◌*◌, ◌≤◌, Bool, true, false, cond, List, [], ◌∷◌, length, map, take, drop, Option, Some, None}
 use Rattle.std.proofs.Common.{refl, sym, ap, subst, ◌∙◌, replicate, arith, ◌⊎◌, inl, inr, ⊎_elim}
-use Rattle.std.specs.Prelude.{min, max, not, ◌==◌, ◌&&◌, nat_le, nat_lt, slice_get, slice_set, slice_index_or}
+use Rattle.std.specs.Prelude.{min, max, not, ◌==◌, ◌&&◌, is_none, nat_le, nat_lt, slice_get, slice_set, slice_index_or}
 use Rattle.std.specs.FinMap.{get}
 use Rattle.std.proofs.lemmas.Bool.{ltb-false}
 use Rattle.std.proofs.lemmas.List.{length-append, length-map, length-set, length-take}
@@ -21,25 +21,26 @@ use Rattle.nfs_model.specs.Memo.{Change, Sets, Creates, MakesDirectory, Removes,
 use Rattle.nfs_model.specs.Serial.Same.{same_caller, same_change}
 use Rattle.nfs_model.specs.Serial.Once.{is_short, change_of, place, is_recent, is_of, told_in, told_among, told_before, answer_told, told_of, memos_with}
 use Rattle.nfs_model.specs.Serial.Once.{memos_after, remembered, or_told, once}
+use Rattle.nfs_model.specs.Serial.Rights.{protection, may_search}
 use Rattle.nfs_model.specs.Serial.Setattr.{setattr}
 use Rattle.nfs_model.specs.Serial.Getattr.{getattr, tell_of}
 use Rattle.nfs_model.specs.Serial.Access.{access_given}
 use Rattle.nfs_model.specs.Serial.Lookup.{looked_up, lookup_told, lookup}
 use Rattle.nfs_model.specs.Serial.Read.{read}
 use Rattle.nfs_model.specs.Serial.Write.{Writing, bytes_kept, write_fault, space_fault, write_some, write}
-use Rattle.nfs_model.specs.Serial.Create.{create_over, create_at, create}
+use Rattle.nfs_model.specs.Serial.Create.{told_as_it_is, create_over, create_at, create}
 use Rattle.nfs_model.specs.Serial.Mkdir.{mkdir_at, mkdir}
 use Rattle.nfs_model.specs.Serial.Remove.{gone, remove_node, remove_at, remove_name}
 use Rattle.nfs_model.specs.Serial.Rmdir.{if_empty, rmdir_node, rmdir_at, rmdir}
 use Rattle.nfs_model.specs.Serial.Rename.{Renaming, climb_fault, met_above, may_go, renamed_volume, rename_told, is_same_entry, rename_at, rename_in, rename}
 use Rattle.nfs_model.specs.Serial.Readdir.{page_of, paged, readdir}
-use Rattle.nfs_model.specs.Serial.Readdirplus.{shown_at, listed_plus, page_plus_of, paged_plus, readdirplus}
+use Rattle.nfs_model.specs.Serial.Readdirplus.{shown_at, listed_plus, listed_bare, listed_for, page_plus_of, paged_plus, readdirplus}
 use Rattle.nfs_model.specs.Serial.Fsstat.{fsstat}
 use Rattle.nfs_model.specs.Serial.Commit.{commit}
 use Rattle.nfs_model.specs.Serial.Census.{count_of, census}
 use Rattle.nfs_model.specs.Serial.Grow.{Grown, grow_volume, grow}
 use Rattle.nfs_model.specs.Serial.Mount.{mount, parts_below}
-use Rattle.nfs_model.specs.Serial.MountBelow.{part_fault, on_entry, mount_below}
+use Rattle.nfs_model.specs.Serial.MountBelow.{part_fault, on_entry, search_refusal, mount_below}
 use Rattle.nfs_model.specs.Serial.Step.{Step, stay, placed, on, on_root, on_two, serve, serial}
 use Rattle.nfs_model.specs.Serial.Absent.{absent_in, absent_parts}
 use Rattle.nfs_model.specs.Serial.AtOnce.{answer_of_two, answer_without_home}
@@ -82,8 +83,8 @@ access_size a given = record { bytes = omega arith }
 fsinfo_size : (a : model.Shown) (largest : ℕ) → Takes 140 (model.FsinfoDone a largest)
 fsinfo_size a largest = record { bytes = omega arith }
 
-pathconf_size : (a : model.Shown) → Takes 116 (model.PathconfDone a)
-pathconf_size a = record { bytes = omega arith }
+pathconf_size : (a : model.Shown) (chown_restricted : Bool) → Takes 116 (model.PathconfDone a chown_restricted)
+pathconf_size a chown_restricted = record { bytes = omega arith }
 
 root_size : (volume fileid : ℕ) → Takes mount_room (model.MountDone (handle_bytes volume fileid))
 root_size volume fileid = record { bytes = omega arith }
@@ -161,9 +162,9 @@ tell_fits n answer volume fileid takes = node_fits n volume (get volume.nodes fi
 getattr_fits : (volume : VolumeState) (fileid : ℕ) → Fits 88 volume (getattr volume fileid)
 getattr_fits volume fileid = node_fits 88 volume (get volume.nodes fileid) _ (λ node. tells _ _ _ (getattr_size (shown volume fileid node)))
 
-setattr_fits : (set : model.SetAttributes) (guard : Option model.Moment) (moment : model.Moment) (volume : VolumeState) (fileid : ℕ)
-    → Fits (4 + change_room) volume (setattr set guard moment volume fileid)
-setattr_fits set guard moment volume fileid =
+setattr_fits : (set : model.SetAttributes) (guard : Option model.Moment) (caller : model.Caller) (moment : model.Moment) (volume : VolumeState)
+    (fileid : ℕ) → Fits (4 + change_room) volume (setattr set guard caller moment volume fileid)
+setattr_fits set guard caller moment volume fileid =
     node_fits (4 + change_room) volume (get volume.nodes fileid) _ (λ node. unless_fits (4 + change_room) volume _ _ (changes _ _ _ _ (setattr_size _) refl (λ m. m)))
 
 found_fits : (n : Naming) (o : Option Found) → Fits lookup_room n.volume (lookup_told n o)
@@ -194,28 +195,32 @@ write_fits w volume fileid e =
     if_fits 28 volume (not (w.count == length w.written)) _ _ (fails _ _ _)
     (if_fits 28 volume (w.count == 0) _ _ (tells _ _ _ (write_size 0 volume.verifier e)) (write_some_fits volume fileid f w e)))
 
-create_over_fits : (n : Naming) (mode : model.CreateMode) (fileid : ℕ) (node : Node) → Fits made_room n.volume (create_over n mode fileid node)
-create_over_fits n (model.Guarded set) fileid node = fails _ _ _
-create_over_fits n (model.Unchecked set) fileid (Directory other) = fails _ _ _
-create_over_fits n (model.Exclusive verifier) fileid (Directory other) = fails _ _ _
-create_over_fits n (model.Exclusive verifier) fileid (File f) = if_fits made_room n.volume _ _ _ (tells _ _ _ (made_size _ _ _ _)) (fails _ _ _)
-create_over_fits n (model.Unchecked set) fileid (File f) = unless_fits made_room n.volume _ _ (changes _ _ _ _ (made_size _ _ _ _) refl (λ m. m))
+there_fits : (n : Naming) (fileid : ℕ) (node : Node) → Fits made_room n.volume (told_as_it_is n fileid node)
+there_fits n fileid node = tells _ _ _ (made_size _ _ _ _)
 
-create_at_fits : (n : Naming) (mode : model.CreateMode) (credential : model.Credential) (o : Option Found)
-    → Fits made_room n.volume (create_at n mode credential o)
-create_at_fits n mode credential (Some found) = create_over_fits n mode found.fileid found.node
-create_at_fits n mode credential None = unless_fits made_room n.volume _ _ (changes _ _ _ _ (made_size _ _ _ _) refl (λ m. m))
+create_over_fits : (n : Naming) (mode : model.CreateMode) (caller : model.Caller) (fileid : ℕ) (node : Node)
+    → Fits made_room n.volume (create_over n mode caller fileid node)
+create_over_fits n (model.Guarded set) caller fileid node = fails _ _ _
+create_over_fits n (model.Unchecked set) caller fileid (Directory other) = fails _ _ _
+create_over_fits n (model.Exclusive verifier) caller fileid (Directory other) = fails _ _ _
+create_over_fits n (model.Exclusive verifier) caller fileid (File f) = if_fits made_room n.volume _ _ _ (there_fits n fileid (File f)) (fails _ _ _)
+create_over_fits n (model.Unchecked set) caller fileid (File f) =
+    if_fits made_room n.volume (caller.checked && is_none set.size) _ _ (there_fits n fileid (File f))
+    (unless_fits made_room n.volume _ _ (changes _ _ _ _ (made_size _ _ _ _) refl (λ m. m)))
 
-create_fits : (mode : model.CreateMode) (credential : model.Credential) (n : Naming) → Fits made_room n.volume (create mode credential n)
-create_fits mode credential n = if_fits made_room n.volume (is_dots n.name) _ _ (fails _ _ _) (create_at_fits n mode credential (named_child n))
+create_at_fits : (n : Naming) (mode : model.CreateMode) (caller : model.Caller) (o : Option Found) → Fits made_room n.volume (create_at n mode caller o)
+create_at_fits n mode caller (Some found) = create_over_fits n mode caller found.fileid found.node
+create_at_fits n mode caller None = unless_fits made_room n.volume _ _ (changes _ _ _ _ (made_size _ _ _ _) refl (λ m. m))
 
-mkdir_at_fits : (n : Naming) (set : model.SetAttributes) (credential : model.Credential) (o : Option Found)
-    → Fits made_room n.volume (mkdir_at n set credential o)
-mkdir_at_fits n set credential (Some found) = fails _ _ _
-mkdir_at_fits n set credential None = unless_fits made_room n.volume _ _ (changes _ _ _ _ (made_size _ _ _ _) refl (λ m. m))
+create_fits : (mode : model.CreateMode) (caller : model.Caller) (n : Naming) → Fits made_room n.volume (create mode caller n)
+create_fits mode caller n = if_fits made_room n.volume (is_dots n.name) _ _ (fails _ _ _) (create_at_fits n mode caller (named_child n))
 
-mkdir_fits : (set : model.SetAttributes) (credential : model.Credential) (n : Naming) → Fits made_room n.volume (mkdir set credential n)
-mkdir_fits set credential n = if_fits made_room n.volume (is_dots n.name) _ _ (fails _ _ _) (mkdir_at_fits n set credential (named_child n))
+mkdir_at_fits : (n : Naming) (set : model.SetAttributes) (caller : model.Caller) (o : Option Found) → Fits made_room n.volume (mkdir_at n set caller o)
+mkdir_at_fits n set caller (Some found) = fails _ _ _
+mkdir_at_fits n set caller None = unless_fits made_room n.volume _ _ (changes _ _ _ _ (made_size _ _ _ _) refl (λ m. m))
+
+mkdir_fits : (set : model.SetAttributes) (caller : model.Caller) (n : Naming) → Fits made_room n.volume (mkdir set caller n)
+mkdir_fits set caller n = if_fits made_room n.volume (is_dots n.name) _ _ (fails _ _ _) (mkdir_at_fits n set caller (named_child n))
 
 gone_fits : (n : Naming) (fileid : ℕ) → Fits (4 + change_room) n.volume (gone n fileid)
 gone_fits n fileid = changes _ _ _ _ (gone_size _) refl (λ m. m)
@@ -313,9 +318,14 @@ readdir_fits cookie verifier count volume fileid =
     directory_fits (readdir_room count) volume (get volume.nodes fileid) _ (λ d.
     if_fits (readdir_room count) volume _ _ _ (fails _ _ _) (paged_fits (min count most_bytes) volume _ _ _ (fitting_fits _ (min count most_bytes - 104))))
 
-listed_short : (volume : VolumeState) (e : model.Listed) → IsShort e (listed_plus volume e)
-listed_short volume e =
-    entry_is_short e (shown_at volume e.fileid (get volume.nodes e.fileid)) (handle_bytes volume.number e.fileid) (omega arith)
+-- what is told of an entry: its name alone, or all
+bare_or_all : (volume : VolumeState) (e : model.Listed) (b : Bool) → IsShort e (cond b (listed_bare e) (listed_plus volume e))
+bare_or_all volume e true = entry_is_short e None None tt
+bare_or_all volume e false =
+    entry_is_short e (shown_at volume e.fileid (get volume.nodes e.fileid)) (Some (handle_bytes volume.number e.fileid)) (omega arith)
+
+listed_short : (caller : model.Caller) (volume : VolumeState) (d : DirectoryNode) (e : model.Listed) → IsShort e (listed_for caller volume d e)
+listed_short caller volume d e = bare_or_all volume e (caller.checked && not (may_search caller.credential (protection (Directory d))))
 
 -- the same of pages with attributes and handles, whatever is told of an entry, if it is short
 module _ (told : model.Listed → model.ListedPlus) (short : (e : model.Listed) → IsShort e (told e)) where
@@ -336,12 +346,13 @@ module _ (told : model.Listed → model.ListedPlus) (short : (e : model.Listed) 
   paged_plus_fits count volume directory (e ∷ es) (x ∷ xs) h =
       page_plus_fits count volume directory (e ∷ es) (x ∷ xs) (omega (arith, h))
 
-readdirplus_fits : (cookie : ℕ) (verifier : List ℕ) (names_count count : ℕ) (volume : VolumeState) (fileid : ℕ)
-    → Fits (readdir_room count) volume (readdirplus cookie verifier names_count count volume fileid)
-readdirplus_fits cookie verifier names_count count volume fileid =
+readdirplus_fits : (cookie : ℕ) (verifier : List ℕ) (names_count count : ℕ) (caller : model.Caller) (volume : VolumeState) (fileid : ℕ)
+    → Fits (readdir_room count) volume (readdirplus cookie verifier names_count count caller volume fileid)
+readdirplus_fits cookie verifier names_count count caller volume fileid =
     directory_fits (readdir_room count) volume (get volume.nodes fileid) _ (λ d.
     if_fits (readdir_room count) volume _ _ _ (fails _ _ _)
-    (paged_plus_fits (listed_plus volume) (listed_short volume) (min count most_bytes) volume _ _ _ (fitting_plus_fits _ (min count most_bytes - 104))))
+    (paged_plus_fits (listed_for caller volume d) (listed_short caller volume d) (min count most_bytes) volume _ _ _
+    (fitting_plus_fits _ (min count most_bytes - 104))))
 
 fsstat_fits : (volume : VolumeState) (fileid : ℕ) → Fits 144 volume (fsstat volume fileid)
 fsstat_fits volume fileid = node_fits 144 volume (get volume.nodes fileid) _ (λ node. tells _ _ _ (fsstat_size _ _))
@@ -354,11 +365,14 @@ entry_fits : (volume : VolumeState) (o : Option model.Listed) (run : ℕ → Eff
 entry_fits volume None run f = fails _ _ _
 entry_fits volume (Some e) run f = f e.fileid
 
-below_fits : (parts : List (List ℕ)) (volume : VolumeState) (fileid : ℕ) → Fits mount_room volume (mount_below parts volume fileid)
-below_fits [] volume fileid = directory_fits mount_room volume (get volume.nodes fileid) _ (λ d. tells _ _ _ (root_size _ _))
-below_fits (part ∷ parts) volume fileid =
+below_fits : (parts : List (List ℕ)) (caller : model.Caller) (volume : VolumeState) (fileid : ℕ)
+    → Fits mount_room volume (mount_below parts caller volume fileid)
+below_fits [] caller volume fileid = directory_fits mount_room volume (get volume.nodes fileid) _ (λ d. tells _ _ _ (root_size _ _))
+below_fits (part ∷ parts) caller volume fileid =
     directory_fits mount_room volume (get volume.nodes fileid) _ (λ d.
-    unless_fits mount_room volume (part_fault part) _ (entry_fits volume (find_name part d.list) _ (λ child. below_fits parts volume child)))
+    unless_fits mount_room volume (search_refusal caller d) _
+    (unless_fits mount_room volume (part_fault part) _
+    (entry_fits volume (find_name part d.list) _ (λ child. below_fits parts caller volume child))))
 
 -- ---- a call that is done once
 
@@ -653,53 +667,60 @@ length-census (v ∷ vs) = ap suc (length-census vs)
 census_fits : (volumes : ℕ) (server : Server) → IsRoomy volumes server → Takes (4 + 20 * volumes) (census server)
 census_fits volumes server r = record { bytes = omega (arith, r.few, length-census server.volumes, census_size (map count_of server.volumes)) }
 
+-- a call that is refused by a right (Serial.Permission) fails, and each failure has its room
 serve_fits : (volumes : ℕ) (server : Server) (call : model.Call) (caller : model.Caller) (moment : model.Moment) → IsRoomy volumes server
     → StepFits (results_room volumes call) volumes (serve server call caller moment)
 serve_fits volumes server model.Null caller moment r = stay_fits 0 volumes server model.NullDone (record { bytes = omega arith }) r
 serve_fits volumes server (model.Getattr handle) caller moment r = on_fits 88 volumes server 0 handle _ (λ v f e m. getattr_fits v f) (omega arith) r
 serve_fits volumes server (model.Setattr handle set guard) caller moment r =
     on_fits (4 + change_room) volumes server 2 handle _ (λ v f e m. once_fits (4 + change_room) caller (model.Setattr handle set guard) moment (inl refl)
-    (if_results (length handle == 12) (Sets handle set guard)) v _ m (setattr_fits set guard moment v f)) (omega arith) r
+    (if_results (length handle == 12) (Sets handle set guard)) v _ m
+    (unless_fits (4 + change_room) v _ _ (setattr_fits set guard caller moment v f))) (omega arith) r
 serve_fits volumes server (model.Lookup directory name) caller moment r =
-    on_fits lookup_room volumes server 1 directory _ (λ v f e m. name_fits lookup_room name moment _ v f lookup_fits) (omega arith) r
-serve_fits volumes server (model.CheckAccess handle asked) caller moment r =
-    on_fits 96 volumes server 1 handle _ (λ v f e m. tell_fits 96 _ v f (λ a. access_size a (access_given caller.credential asked a))) (omega arith) r
-serve_fits volumes server (model.Read handle offset count) caller moment r =
-    on_fits (read_room count) volumes server 1 handle _ (λ v f e m. read_fits offset count v f) (omega arith) r
-serve_fits volumes server (model.Write handle offset count written) caller moment r =
-    on_fits 28 volumes server 2 handle _ (λ v f e m. write_fits (record { offset = offset; count = count; written = written; moment = moment }) v f e)
+    on_fits lookup_room volumes server 1 directory _ (λ v f e m. unless_fits lookup_room v _ _ (name_fits lookup_room name moment _ v f lookup_fits))
     (omega arith) r
+serve_fits volumes server (model.CheckAccess handle asked) caller moment r =
+    on_fits 96 volumes server 1 handle _ (λ v f e m. tell_fits 96 _ v f (λ a. access_size a (access_given caller asked a))) (omega arith) r
+serve_fits volumes server (model.Read handle offset count) caller moment r =
+    on_fits (read_room count) volumes server 1 handle _ (λ v f e m. unless_fits (read_room count) v _ _ (read_fits offset count v f)) (omega arith) r
+serve_fits volumes server (model.Write handle offset count written) caller moment r =
+    let w : Writing = record { caller = caller; offset = offset; count = count; written = written; moment = moment } in
+    on_fits 28 volumes server 2 handle _ (λ v f e m. unless_fits 28 v _ _ (write_fits w v f e)) (omega arith) r
 serve_fits volumes server (model.Create directory name mode) caller moment r =
     on_fits made_room volumes server 2 directory _ (λ v f e m. once_fits made_room caller (model.Create directory name mode) moment (inr refl)
     (if_results (is_short directory name) (Creates directory name mode)) v _ m
-    (name_fits made_room name moment _ v f (create_fits mode caller.credential))) (omega arith) r
+    (unless_fits made_room v _ _ (name_fits made_room name moment _ v f (create_fits mode caller)))) (omega arith) r
 serve_fits volumes server (model.Mkdir directory name set) caller moment r =
     on_fits made_room volumes server 2 directory _ (λ v f e m. once_fits made_room caller (model.Mkdir directory name set) moment (inr refl)
     (if_results (is_short directory name) (MakesDirectory directory name set)) v _ m
-    (name_fits made_room name moment _ v f (mkdir_fits set caller.credential))) (omega arith) r
+    (unless_fits made_room v _ _ (name_fits made_room name moment _ v f (mkdir_fits set caller)))) (omega arith) r
 serve_fits volumes server (model.Remove directory name) caller moment r =
     on_fits (4 + change_room) volumes server 2 directory _ (λ v f e m. once_fits (4 + change_room) caller (model.Remove directory name) moment (inl refl)
-    (if_results (is_short directory name) (Removes directory name)) v _ m (name_fits (4 + change_room) name moment _ v f remove_fits)) (omega arith) r
+    (if_results (is_short directory name) (Removes directory name)) v _ m
+    (unless_fits (4 + change_room) v _ _ (name_fits (4 + change_room) name moment _ v f remove_fits))) (omega arith) r
 serve_fits volumes server (model.Rmdir directory name) caller moment r =
     on_fits (4 + change_room) volumes server 2 directory _ (λ v f e m. once_fits (4 + change_room) caller (model.Rmdir directory name) moment (inl refl)
-    (if_results (is_short directory name) (RemovesDirectory directory name)) v _ m (name_fits (4 + change_room) name moment _ v f rmdir_fits))
-    (omega arith) r
+    (if_results (is_short directory name) (RemovesDirectory directory name)) v _ m
+    (unless_fits (4 + change_room) v _ _ (name_fits (4 + change_room) name moment _ v f rmdir_fits))) (omega arith) r
 serve_fits volumes server (model.Rename from from_name to to_name) caller moment r =
     two_located rename_room volumes server 4 (locate server from) (locate server to) _ (located server.volumes (handle_of (length server.volumes) from))
     (λ v a b m. once_fits rename_room caller (model.Rename from from_name to to_name) moment (inr refl)
-    (if_results (is_short from from_name && is_short to to_name) (Renames from from_name to to_name)) v _ m (rename_fits from_name to_name moment v a b))
+    (if_results (is_short from from_name && is_short to to_name) (Renames from from_name to to_name)) v _ m
+    (unless_fits rename_room v _ _ (rename_fits from_name to_name moment v a b)))
     (omega arith) r
 serve_fits volumes server (model.Readdir directory cookie verifier count) caller moment r =
-    on_fits (readdir_room count) volumes server 1 directory _ (λ v f e m. readdir_fits cookie verifier count v f) (omega arith) r
+    on_fits (readdir_room count) volumes server 1 directory _ (λ v f e m. unless_fits (readdir_room count) v _ _ (readdir_fits cookie verifier count v f))
+    (omega arith) r
 serve_fits volumes server (model.Readdirplus directory cookie verifier names_count count) caller moment r =
-    on_fits (readdir_room count) volumes server 1 directory _ (λ v f e m. readdirplus_fits cookie verifier names_count count v f) (omega arith) r
+    on_fits (readdir_room count) volumes server 1 directory _ (λ v f e m. unless_fits (readdir_room count) v _ _
+    (readdirplus_fits cookie verifier names_count count caller v f)) (omega arith) r
 serve_fits volumes server (model.Fsstat handle) caller moment r = on_fits 144 volumes server 1 handle _ (λ v f e m. fsstat_fits v f) (omega arith) r
 serve_fits volumes server (model.Fsinfo handle) caller moment r =
     on_fits 140 volumes server 1 handle _ (λ v f e m. tell_fits 140 _ v f (λ a. fsinfo_size a v.largest)) (omega arith) r
 serve_fits volumes server (model.Pathconf handle) caller moment r =
-    on_fits 116 volumes server 1 handle _ (λ v f e m. tell_fits 116 _ v f pathconf_size) (omega arith) r
+    on_fits 116 volumes server 1 handle _ (λ v f e m. tell_fits 116 _ v f (λ a. pathconf_size a caller.checked)) (omega arith) r
 serve_fits volumes server (model.Commit handle) caller moment r =
-    on_fits (4 + change_room + 8) volumes server 2 handle _ (λ v f e m. commit_fits v f e) (omega arith) r
+    on_fits (4 + change_room + 8) volumes server 2 handle _ (λ v f e m. unless_fits (4 + change_room + 8) v _ _ (commit_fits v f e)) (omega arith) r
 serve_fits volumes server (model.Unsupported which) caller moment r =
     failed_fits 16 volumes server model.NotSupported (absent_in which) (few_absent which) r
 serve_fits volumes server model.Census caller moment r = stay_fits (4 + 20 * volumes) volumes server (census server) (census_fits volumes server r) r
@@ -709,7 +730,7 @@ serve_fits volumes server (model.Mount call) caller moment r =
     stay_fits 204 volumes server (mount (length server.volumes) call) (mount_size (length server.volumes) call) r
 serve_fits volumes server (model.MountBelow root path) caller moment r =
     root_located mount_room volumes server 0 (locate server root) _ (located server.volumes (handle_of (length server.volumes) root))
-    (below_fits (parts_below path)) (omega arith) r
+    (below_fits (parts_below path) caller) (omega arith) r
 
 serial_fits : (volumes : ℕ) (server : Server) (call : model.Call) (caller : model.Caller) (moment : model.Moment) (starved : Bool) → IsRoomy volumes server
     → StepFits (results_room volumes call) volumes (serial server (model.Ask call caller) moment starved)

@@ -1,4 +1,5 @@
 -- The handles of calls and replies, as they are spelled (nfs_fh3, RFC 1813 section 2.6).
+use Rattle.std.specs.Option.{option_map}
 use Rattle.std.specs.Prelude.{ℕ, List, map}
 use Rattle.nfs_model.specs.Types as model
 use Rattle.rpc_msg.specs.declared.handle_form.HandleForm.{HandleForm}
@@ -11,9 +12,9 @@ abbrev pub call_heard : HandleForm → model.Call → model.Call
 call_heard Plain call = call
 call_heard (OfRun run) call = call_with (heard_in_run run) call
 
--- an entry with another handle in place of its own (RFC 1813 section 3.3.17)
+-- an entry with another handle in place of its own, if it has one (RFC 1813 section 3.3.17)
 abbrev pub listed_with : (List ℕ → List ℕ) → model.ListedPlus → model.ListedPlus
-listed_with f e = record e { handle = f e.handle }
+listed_with f e = record e { handle = option_map f e.handle }
 
 -- results with another handle in place of each of theirs (RFC 1813 section 3.3, and MNT of appendix I)
 abbrev pub answer_with : (List ℕ → List ℕ) → model.Answer → model.Answer

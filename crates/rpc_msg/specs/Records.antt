@@ -1,5 +1,5 @@
 -- The call of a record (RFC 5531 section 9): what its head and its arguments ask.
-use Rattle.std.specs.Prelude.{ℕ, List, Result, Ok, Err}
+use Rattle.std.specs.Prelude.{ℕ, false, List, Result, Ok, Err}
 use Rattle.xdr.specs.declared.fault.Fault.{Fault as Unread}
 use Rattle.nfs_model.specs.Types as model
 use Rattle.nfs_model.specs.World.{Heard}
@@ -10,9 +10,10 @@ use Rattle.nfs_types.specs.Arguments.{asked}
 use Rattle.rpc_msg.specs.Handles.{call_heard}
 use Rattle.rpc_msg.specs.Heads.{Head, Call, Refused, Faulty, head_by}
 
--- who makes a call: whom it acts for under its record's xid. A record doesn't say where it comes from
+-- who makes a call: whom it acts for under its record's xid. A record says neither where it comes from nor whether its caller is checked or
+-- only reads
 abbrev pub caller_by : ℕ → model.Credential → model.Caller
-caller_by xid credential = record { credential = credential; xid = xid; peer = 0 }
+caller_by xid credential = record { credential = credential; xid = xid; peer = 0; checked = false; reads_only = false }
 
 -- the call, as the server has its handles, or GARBAGE_ARGS where its arguments are no spelling or bytes are left
 abbrev pub asked_by : HandleForm → model.Caller → Result model.Call Unread → model.Asked

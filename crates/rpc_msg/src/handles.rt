@@ -1,6 +1,7 @@
 //! The handles of calls and replies, as they are spelled.
 
 ghost use Rattle.std.specs.Prelude.{◌≡◌, map};
+ghost use Rattle.std.specs.Option.{option_map};
 ghost use Rattle.nfs_values.specs.Answer.{answer_of, entry_plus_of};
 ghost use Rattle.nfs_values.specs.Call.{call_of};
 ghost use Rattle.rpc_msg.specs.HandleForm.{heard_in_run, told_in_run};
@@ -17,6 +18,16 @@ fn tell_handle(handle: &mut FileHandle, run: u64)
     ensures { handle.new ≡ told_in_run run handle.old }
 {
     *handle = told_in_run(handle, run);
+}
+
+/// Tells a handle, if there is one, in the run of this number.
+fn tell_optional(handle: &mut Option<FileHandle>, run: u64)
+    ensures { handle.new ≡ option_map (told_in_run run) handle.old }
+{
+    match handle {
+        Some(handle) => tell_handle(handle, run),
+        None => {}
+    }
 }
 
 /// Hears handles in the run of this number.
@@ -47,7 +58,7 @@ fn tell_entries(entries: &mut [DirectoryEntryPlus], run: u64)
         ≡ map (listed_with (told_in_run run)) (map entry_plus_of entries.old) }
 {
     for entry in entries.iter_mut() {
-        tell_handle(&mut entry.handle, run);
+        tell_optional(&mut entry.handle, run);
     }
 }
 

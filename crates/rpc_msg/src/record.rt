@@ -54,6 +54,8 @@ fn decode(
                 credential,
                 xid,
                 peer: PeerAddress::NONE,
+                is_checked: false,
+                reads_only: false,
             },
         },
         Err(Bad::Fault(_fault)) => Request::Refused(Refusal::GarbageArguments),

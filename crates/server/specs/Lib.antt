@@ -3,3 +3,4 @@ pub mod Threads
 pub mod Numbers
 pub mod Planned
 pub mod Served
+pub mod Standings

@@ -2,6 +2,7 @@
 use Rattle.std.specs.Prelude.{◌≡◌, ℕ, [], ◌∷◌, replicate}
 use Rattle.nfs_model.specs.Types.{Moment}
 use Rattle.nfs_model.specs.Tree as trees
+use Rattle.nfs_values.specs.Ownership.{ownership_of}
 use Rattle.server_options.specs.declared.plan.VolumePlan.{VolumePlan}
 
 -- a volume of a plan that begins at a moment, on the first aggregate
@@ -15,6 +16,7 @@ volume_planned plan begun = record {
   inodes = plan.inodes;
   most_steps = plan.most_steps;
   begun = begun;
+  root = ownership_of plan.root;
   remembered = plan.remembered;
 }
 

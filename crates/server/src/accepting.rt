@@ -117,7 +117,7 @@ impl<'a> Door<'a> {
     /// closed before a byte is read, and counts as ended; one of a peer that isn't served doesn't
     /// count.
     fn let_in<R: Wait + Clock>(&mut self, rt: &R, stream: TcpStream, peer: SocketAddr) {
-        if !self.options.peers.has(&peer.ip()) {
+        if !self.options.rules.peers.has(&peer.ip()) {
             self.common.note(rt, Event::NotAllowed { peer });
             return;
         }

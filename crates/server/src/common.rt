@@ -10,13 +10,15 @@ use crate::traffic::Traffic;
 use crate::untended::Untended;
 use clerk::{Event, Journal};
 use granted_calls::Wanted;
-use server_options::Options;
+use server_options::{Options, PeerRules};
 use statistics::Tally;
 use std::alloc::{AllocError, Global};
 use std::sync::{Arc, Wait};
 
 /// What the threads of a server share.
 pub(crate) struct Common {
+    /// How the callers of peers stand.
+    pub(crate) rules: PeerRules,
     /// The connections that have ended.
     pub(crate) ends: Ends,
     /// Word that a lane leaves where another has what it tries.
@@ -43,6 +45,7 @@ pub(crate) struct Common {
 impl Drop for Common {
     fn drop(self) {
         let Common {
+            rules: _,
             ends: _,
             wanted: _,
             untended: _,
@@ -94,6 +97,7 @@ impl Common {
         let lanes = if counts { options.workers } else { 0 };
         let measured = if has_metrics { options.workers } else { 0 };
         Ok(Common {
+            rules: options.rules,
             ends: Ends::new(),
             wanted: Wanted::new(),
             untended: Untended::new(),

@@ -83,7 +83,7 @@ where
         form: options.offer.handles(),
         patience: telling::PATIENCE,
     };
-    metrics.serve(rt, &mut Telling::new(asked, options.peers), stopped);
+    metrics.serve(rt, &mut Telling::new(asked, options.rules.peers), stopped);
 }
 
 /// Writes the lines of the start, then what is left for the clerk, until nothing more is, and

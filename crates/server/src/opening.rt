@@ -40,6 +40,7 @@ pub(crate) fn layout_of(
         inodes: plan.inodes,
         most_steps: plan.most_steps,
         begun,
+        root: plan.root,
         remembered: plan.remembered,
     };
     let specifications = [specification; MOST_VOLUMES];

@@ -57,7 +57,7 @@ pub(crate) fn open<R: Wait>(
 {
     let Arrival { stream, peer } = arrival;
     let common = &station.common;
-    let peer_is = peer_of(&stream, peer);
+    let peer_is = peer_of(&common.rules, &stream, peer);
     match register(lane, station.poll.registry(), common, stream, peer_is) {
         Some(key) => {
             station.guests.admit(key, peer, now);

@@ -1,8 +1,9 @@
 -- What a server may be asked for.
 use Rattle.std.specs.Prelude.{◌≡◌, ℕ, ◌+◌, ◌*◌, ◌/◌, ◌<◌, ◌≤◌, ◌⊎◌, max}
-use Rattle.nfs_model.specs.Server.{block_size}
+use Rattle.nfs_model.specs.Server.{block_size, root_of_root}
 use Rattle.nfs_model.specs.volume.Inodes.{inodes_of_a_volume}
 use Rattle.nfs_model.specs.volume.Ranges.{IsRangeSize}
+use Rattle.nfs_values.specs.Ownership.{ownership_of}
 use Rattle.affinity.specs.Largest.{mebibyte}
 use Rattle.server_options.specs.declared.admission.Admission.{Admission}
 use Rattle.server_options.specs.declared.admission.WhenFull.TheVariants.{Waits}
@@ -52,7 +53,7 @@ abbrev pub AreInodes : ℕ → Type 0
 AreInodes inodes = fewest_inodes ≤ inodes × inodes ≤ inodes_of_a_volume
 
 -- the plan of `serve`: 4 ranges of 1,024 blocks, 8 stripes, files of 16 MiB, 65,536 inodes, more steps than these, no reply
--- remembered, and 16 spare ranges
+-- remembered, 16 spare ranges, and roots of uid 0
 pub record IsBasic (plan : VolumePlan) : Type 0 where
   pub ranges : plan.ranges ≡ 4
   pub range_blocks : plan.range_blocks ≡ 1024
@@ -62,6 +63,7 @@ pub record IsBasic (plan : VolumePlan) : Type 0 where
   pub steps : plan.most_steps ≡ usual_steps
   pub remembered : plan.remembered ≡ 0
   pub spare : plan.spare ≡ 16
+  pub root : ownership_of plan.root ≡ root_of_root
 
 -- volumes of this many ranges of 1,024 blocks, with files of 64 MiB and 65,536 inodes, which may grow
 pub record HasRanges (ranges : ℕ) (plan : VolumePlan) : Type 0 where
@@ -73,6 +75,7 @@ pub record HasRanges (ranges : ℕ) (plan : VolumePlan) : Type 0 where
   pub steps : plan.most_steps ≡ exported_steps
   pub remembered : plan.remembered ≡ exported_replies
   pub spare : plan.spare ≡ 128
+  pub root : ownership_of plan.root ≡ root_of_root
 
 -- the bytes of a range of a volume, and of the volume at the start
 abbrev pub range_bytes_of : VolumePlan → ℕ
@@ -94,6 +97,7 @@ pub record HasSize (bytes : ℕ) (plan : VolumePlan) : Type 0 where
   pub steps : plan.most_steps ≡ exported_steps
   pub remembered : plan.remembered ≡ exported_replies
   pub spare : plan.spare ≡ 0
+  pub root : ownership_of plan.root ≡ root_of_root
 
 -- another plan with files of at most this many bytes, in whole mebibytes, and else the same
 pub record HasFiles (bytes : ℕ) (old new : VolumePlan) : Type 0 where
@@ -105,6 +109,7 @@ pub record HasFiles (bytes : ℕ) (old new : VolumePlan) : Type 0 where
   pub steps : new.most_steps ≡ old.most_steps
   pub remembered : new.remembered ≡ old.remembered
   pub spare : new.spare ≡ old.spare
+  pub root : new.root ≡ old.root
 
 -- another plan with this many inodes at most, and else the same
 pub record HasInodes (inodes : ℕ) (old new : VolumePlan) : Type 0 where
@@ -116,6 +121,7 @@ pub record HasInodes (inodes : ℕ) (old new : VolumePlan) : Type 0 where
   pub steps : new.most_steps ≡ old.most_steps
   pub remembered : new.remembered ≡ old.remembered
   pub spare : new.spare ≡ old.spare
+  pub root : new.root ≡ old.root
 
 -- another plan with this many replies remembered, and else the same
 pub record RemembersReplies (replies : ℕ) (old new : VolumePlan) : Type 0 where
@@ -127,6 +133,7 @@ pub record RemembersReplies (replies : ℕ) (old new : VolumePlan) : Type 0 wher
   pub inodes : new.inodes ≡ old.inodes
   pub steps : new.most_steps ≡ old.most_steps
   pub spare : new.spare ≡ old.spare
+  pub root : new.root ≡ old.root
 
 -- how `replay` and `serve` let connections in: 64 are open at most, and others wait
 abbrev pub IsUsual : Admission → Type 0

@@ -1,3 +1,4 @@
 pub mod Networks
 pub mod Peers
+pub mod Standings
 pub mod Asked

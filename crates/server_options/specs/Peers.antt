@@ -1,5 +1,5 @@
 -- Whose connections are served (our profile).
-use Rattle.std.specs.Prelude.{◌≡◌, ℕ, ◌<◌, ◌/◌, ◌^◌, ◌⊎◌, ⊤, Option, Some, None, Any}
+use Rattle.std.specs.Prelude.{◌≡◌, ℕ, ◌<◌, ◌/◌, ◌^◌, ◌⊎◌, ⊤, false, List, Option, Some, None, Any, IsTrue}
 use Rattle.std.specs.Net.Addr.{ipv4_bits, ipv6_bits, IsLoopbackV4, IsLoopbackV6, MatchIp}
 use Rattle.std.specs.Net.Socket.{socket_ip, socket_port}
 use Rattle.std.specs.declared.net.ipv6_addr.Ipv6Addr.{Ipv6Addr}
@@ -7,15 +7,15 @@ use Rattle.std.specs.declared.net.ip_addr.IpAddr.{IpAddr}
 use Rattle.std.specs.declared.net.ip_addr.IpAddr.TheVariants.{V4, V6}
 use Rattle.std.specs.declared.net.socket_addr.SocketAddr.{SocketAddr}
 use Rattle.nfs_values.specs.declared.caller.PeerAddress.{PeerAddress}
-use Rattle.server_options.specs.declared.network.Network.{Network}
+use Rattle.server_options.specs.declared.allowed.AllowedNetwork.{AllowedNetwork}
 use Rattle.server_options.specs.declared.peers.Peers.{Peers}
 use Rattle.server_options.specs.declared.peers.Peers.TheVariants.{All, Loopback, Networks}
 use Rattle.server_options.specs.Networks.{mapped_in, width_of, IsIn, IsMapped}
 
 -- it is in a network that was named
-abbrev pub IsNamed : IpAddr → Option Network → Type 0
+abbrev pub IsNamed : IpAddr → Option AllowedNetwork → Type 0
 IsNamed address None = ⊥
-IsNamed address (Some network) = IsIn network.address network.bits address
+IsNamed address (Some allowed) = IsIn allowed.network.address allowed.network.bits address
 
 -- an address of the own machine in IPv6: ::1, or one of 127.0.0.0/8 in IPv6's form
 abbrev pub IsOwnV6 : Ipv6Addr → Type 0
@@ -26,6 +26,25 @@ abbrev pub Serves : Peers → IpAddr → Type 0
 Serves All address = ⊤
 Serves Loopback address = MatchIp address IsLoopbackV4 IsOwnV6
 Serves (Networks named) address = Any (IsNamed address) named
+
+-- ---- who may change nothing
+
+-- it is in a network whose callers may change things, and which has more bits than this
+abbrev pub IsWriterBeyond : IpAddr → ℕ → Option AllowedNetwork → Type 0
+IsWriterBeyond address bits None = ⊥
+IsWriterBeyond address bits (Some allowed) = (allowed.reads_only ≡ false) × (bits < allowed.network.bits) × IsNamed address (Some allowed)
+
+-- by one of these networks its callers may change nothing: it is in that one, and in none of more bits whose callers may
+abbrev pub ReadsBy : IpAddr → List (Option AllowedNetwork) → Option AllowedNetwork → Type 0
+ReadsBy address named None = ⊥
+ReadsBy address named (Some allowed) =
+    IsTrue allowed.reads_only × IsNamed address (Some allowed) × (Any (IsWriterBeyond address allowed.network.bits) named → ⊥)
+
+-- The callers of an address may change nothing: of the networks that have it, that with the most bits says so, or one of those with as many.
+abbrev pub OnlyReads : Peers → IpAddr → Type 0
+OnlyReads All address = ⊥
+OnlyReads Loopback address = ⊥
+OnlyReads (Networks named) address = Any (ReadsBy address named) named
 
 -- ---- who may stop the server
 

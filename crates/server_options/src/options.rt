@@ -4,7 +4,7 @@ ghost use Rattle.std.specs.Prelude.{◌≤◌, ◌<◌};
 
 use crate::admission::{Admission, MOST_OPEN, WhenFull};
 use crate::idle::IdleTime;
-use crate::peers::Peers;
+use crate::peer_rules::PeerRules;
 use crate::plan::VolumePlan;
 use affinity::MOST_VOLUMES;
 use clerk::Period;
@@ -14,10 +14,11 @@ use std::net::SocketAddr;
 use tends::MOST_WORKERS;
 
 /// Where a server listens, how many volumes (1 to 8) and workers (1 to 64) it has, after how many
-/// connections it ends, if after any, how many may be open, what it offers and to whom, what its
-/// volumes have at the start and when that is, by their roots, after how long a connection is idle,
-/// if ever, how many bytes of replies may be owed to all connections together, if that is bounded,
-/// whether each connection is told of, and how often statistics are, if they are.
+/// connections it ends, if after any, how many may be open, what it offers, to whom, and what
+/// callers may do, what its volumes have at the start and when that is, by their roots, after how
+/// long a connection is idle, if ever, how many bytes of replies may be owed to all connections
+/// together, if that is bounded, whether each connection is told of, and how often statistics are,
+/// if they are.
 #[derive(Clone, Copy)]
 pub struct Options {
     pub address: SocketAddr,
@@ -26,7 +27,7 @@ pub struct Options {
     pub connections: Option<u64>,
     pub admission: Admission,
     pub offer: Offer,
-    pub peers: Peers,
+    pub rules: PeerRules,
     pub plan: VolumePlan,
     pub begun: Moment,
     pub idle: Option<IdleTime>,
@@ -45,12 +46,12 @@ impl Options {
     ghost use Rattle.nfs_values.specs.Moment.{moment_of};
     ghost use Rattle.rpc_msg.specs.Offer.{basic};
     ghost use Rattle.server_options.specs.Asked.{IsBasic, IsInRange, IsUsual};
-    ghost use Rattle.server_options.specs.declared.peers.Peers.TheVariants.{All};
+    ghost use Rattle.server_options.specs.Standings.{IsOpen};
 
     /// These options, where the numbers are in their ranges, and else none. The offer and the plan
-    /// are the basic ones, roots have the start of all times, everybody is served, at most 64
-    /// connections are open, for which others wait, none is ever idle, none is told of, and no
-    /// statistics are.
+    /// are the basic ones, roots have the start of all times, everybody is served, no caller is
+    /// checked, at most 64 connections are open, for which others wait, none is ever idle, none is
+    /// told of, and no statistics are.
     pub fn new(
         address: SocketAddr,
         volumes: usize,
@@ -60,7 +61,7 @@ impl Options {
         ensures given { IfSome result (λ options. options.address ≡ address
             × options.volumes ≡ volumes × options.workers ≡ workers
             × options.connections ≡ connections × IsUsual options.admission
-            × options.offer ≡ basic × IsBasic options.plan × options.peers ≡ All
+            × options.offer ≡ basic × IsBasic options.plan × IsOpen options.rules
             × moment_of options.begun ≡ start_of_times
             × options.idle ≡ None × options.most_owed ≡ None × options.log ≡ false
             × options.statistics ≡ None) }
@@ -83,7 +84,7 @@ impl Options {
                 when_full: WhenFull::Waits,
             },
             offer: Offer::basic(),
-            peers: Peers::All,
+            rules: PeerRules::OPEN,
             plan: VolumePlan::basic(),
             begun: Moment::START,
             idle: None,
@@ -111,12 +112,12 @@ impl Options {
         options
     }
 
-    /// The same options, to serve these peers alone.
-    pub fn with_peers(self, peers: Peers) -> Options
-        ensures { result ≡ record self { peers = peers } }
+    /// The same options, with other rules of peers.
+    pub fn with_rules(self, rules: PeerRules) -> Options
+        ensures { result ≡ record self { rules = rules } }
     {
         let mut options = self;
-        options.peers = peers;
+        options.rules = rules;
         options
     }
 

@@ -1,9 +1,10 @@
 //! Whose connections are served.
 
 ghost use Rattle.std.specs.Prelude.{◌↔◌, Any, IsTrue};
-ghost use Rattle.server_options.specs.Peers.{ComesFrom, IsAt, IsHere, IsNamed, IsOwnV6, MayStop};
-ghost use Rattle.server_options.specs.Peers.{Serves};
+ghost use Rattle.server_options.specs.Peers.{ComesFrom, IsAt, IsHere, IsNamed, IsOwnV6, IsWriterBeyond};
+ghost use Rattle.server_options.specs.Peers.{MayStop, OnlyReads, ReadsBy, Serves};
 
+use crate::allowed::AllowedNetwork;
 use crate::network::{Network, is_mapped, mapped_in};
 use nfs_values::PeerAddress;
 use std::fmt;
@@ -20,24 +21,73 @@ pub enum Peers {
     /// Those from the own machine.
     Loopback,
     /// Those from these networks.
-    Networks([Option<Network>; MOST_NETWORKS]),
+    Networks([Option<AllowedNetwork>; MOST_NETWORKS]),
 }
 
 /// Whether an address is in a network, if that was named.
-fn is_named(network: &Option<Network>, address: &IpAddr) -> bool
-    ensures { IsTrue result ↔ IsNamed address.now network.now }
+fn is_named(allowed: &Option<AllowedNetwork>, address: &IpAddr) -> bool
+    ensures { IsTrue result ↔ IsNamed address.now allowed.now }
 {
-    match network {
-        Some(network) => network.has(address),
+    match allowed {
+        Some(allowed) => allowed.network.has(address),
         None => false,
     }
 }
 
 /// Whether an address is in a network that was named.
-fn is_in_some(networks: &[Option<Network>], address: &IpAddr) -> bool
+fn is_in_some(networks: &[Option<AllowedNetwork>], address: &IpAddr) -> bool
     ensures { IsTrue result ↔ Any (IsNamed address.now) networks.now }
 {
-    networks.iter().any(|network| is_named(network, address))
+    networks.iter().any(|allowed| is_named(allowed, address))
+}
+
+/// Whether an address is in a network whose callers may change things, and which has more bits than
+/// this.
+fn is_writer_beyond(allowed: &Option<AllowedNetwork>, bits: u32, address: &IpAddr) -> bool
+    ensures { IsTrue result ↔ IsWriterBeyond address.now bits allowed.now }
+{
+    match allowed {
+        Some(allowed) => {
+            !allowed.reads_only && bits < allowed.network.bits && allowed.network.has(address)
+        }
+        None => false,
+    }
+}
+
+/// Whether an address is in such a network among these.
+fn has_writer_beyond(networks: &[Option<AllowedNetwork>], bits: u32, address: &IpAddr) -> bool
+    ensures { IsTrue result ↔ Any (IsWriterBeyond address.now bits) networks.now }
+{
+    networks
+        .iter()
+        .any(|allowed| is_writer_beyond(allowed, bits, address))
+}
+
+/// Whether the callers of an address may change nothing by one of these networks.
+fn reads_by(
+    allowed: &Option<AllowedNetwork>,
+    networks: &[Option<AllowedNetwork>],
+    address: &IpAddr,
+) -> bool
+    ensures { IsTrue result ↔ ReadsBy address.now networks.now allowed.now }
+{
+    match allowed {
+        Some(allowed) => {
+            allowed.reads_only
+                && allowed.network.has(address)
+                && !has_writer_beyond(networks, allowed.network.bits, address)
+        }
+        None => false,
+    }
+}
+
+/// Whether the callers of an address may change nothing by any of these networks.
+fn reads_by_some(networks: &[Option<AllowedNetwork>], address: &IpAddr) -> bool
+    ensures { IsTrue result ↔ Any (ReadsBy address.now networks.now) networks.now }
+{
+    networks
+        .iter()
+        .any(|allowed| reads_by(allowed, networks, address))
 }
 
 /// Whether an address of IPv6 is of the own machine: `::1`, or an IPv4 address of it in IPv6's
@@ -62,6 +112,17 @@ impl Peers {
                 IpAddr::V6(own) => is_own_of_six(own),
             },
             Peers::Networks(networks) => is_in_some(networks, address),
+        }
+    }
+
+    /// Whether the callers of an address may change nothing: of the networks that have it, that
+    /// with the most bits says so, or one of these where there are several.
+    pub fn only_read(&self, address: &IpAddr) -> bool
+        ensures { IsTrue result ↔ OnlyReads self.now address.now }
+    {
+        match self {
+            Peers::All | Peers::Loopback => false,
+            Peers::Networks(networks) => reads_by_some(networks, address),
         }
     }
 }
@@ -110,15 +171,15 @@ pub fn address_of(peer: &SocketAddr) -> PeerAddress
 /// Tells networks, each after a comma but the first.
 fn write_networks<W: fmt::Write>(
     f: &mut fmt::Formatter<W>,
-    networks: &[Option<Network>],
+    networks: &[Option<AllowedNetwork>],
 ) -> fmt::Result {
     let mut is_first = true;
-    for network in networks.iter().flatten() {
+    for allowed in networks.iter().flatten() {
         if !is_first {
             f.write_str(", ")?;
         }
         is_first = false;
-        write!(f, "{network}")?;
+        write!(f, "{allowed}")?;
     }
     Ok(())
 }

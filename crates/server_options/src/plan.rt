@@ -4,7 +4,7 @@ ghost use Rattle.std.specs.Prelude.{◌≡◌, ◌≤◌, ◌<◌, ◌*◌, ◌�
 ghost use Rattle.nfs_model.specs.volume.Ranges.{IsRangeSize};
 
 use affinity::{INODES, MEBIBYTE, MIB, MOST_INODES, MOST_RANGES, RANGE_BLOCKS, STEPS};
-use nfs_values::BLOCK_BYTES;
+use nfs_values::{BLOCK_BYTES, Ownership};
 
 /// The bytes of a volume for each of its inodes.
 const BYTES_AN_INODE: u64 = 16_384;
@@ -46,6 +46,8 @@ pub struct VolumePlan {
     pub remembered: u32,
     /// Ranges by which the volumes may grow, all together.
     pub spare: u32,
+    /// Who owns its root.
+    pub root: Ownership,
     pub ghost some_range: { 0 < ranges },
     pub ghost ranges_fit: { ranges ≤ 16 },
     pub ghost files_from: { 16 ≤ mib },
@@ -89,6 +91,7 @@ impl VolumePlan {
             most_steps: STEPS,
             remembered: 0,
             spare: 16,
+            root: Ownership::ROOT,
         }
     }
 
@@ -111,6 +114,7 @@ impl VolumePlan {
             most_steps: EXPORTED_STEPS,
             remembered: EXPORTED_REPLIES,
             spare: 128,
+            root: Ownership::ROOT,
         })
     }
 
@@ -140,6 +144,7 @@ impl VolumePlan {
             most_steps: EXPORTED_STEPS,
             remembered: EXPORTED_REPLIES,
             spare: 0,
+            root: Ownership::ROOT,
         })
     }
 
@@ -183,6 +188,15 @@ impl VolumePlan {
         let mut plan = self;
         plan.remembered = replies;
         Some(plan)
+    }
+
+    /// The plan with roots that are owned so.
+    pub fn with_root(self, root: Ownership) -> VolumePlan
+        ensures { result ≡ record self { root = root } }
+    {
+        let mut plan = self;
+        plan.root = root;
+        plan
     }
 
     /// The bytes of a volume at the start.

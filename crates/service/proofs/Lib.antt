@@ -4,3 +4,4 @@ mod Handed
 mod InHand
 mod Once
 mod Remembered
+mod Allowed

@@ -26,7 +26,7 @@ use Rattle.filer_state.specs.state.Running.{RunsOn, UnlessReplied}
 use Rattle.filer_state.specs.state.Sound.{IsSound, IsYoung}
 use Rattle.filer_state.specs.state.Tree.{volume_of}
 use Rattle.filer_state.specs.state.WellFormed.{WellFormed, StripeFits}
-use Rattle.service.specs.Running.{call_named, effect_named, effect, is_done_once, remembering, other_in}
+use Rattle.service.specs.Running.{call_named, allowed_named, allowed, is_done_once, remembering, other_in}
 
 -- ---- what is remembered changes nothing else
 
@@ -50,6 +50,7 @@ stays-sound p memos hands made s =
           stripes = f.stripes;
           largest = f.largest;
           cards = f.cards;
+          owners = f.owners;
           long = f.long;
           blocks = f.blocks;
         };
@@ -89,14 +90,14 @@ not-moved (types.Write handle offset count written) c p e = absurd cc
 not-moved call c p e = refl
 
 -- where a call moves doesn't go by what it does
-alike-moved : (call asked : types.Call) (node : Affinity) (fileid : ℕ) (f g : VolumeState → Effect) (p : VolumeContents)
-    → move_of_located call (record { call = asked; node = node; fileid = fileid; run = f }) p
-    ≡ move_of_located call (record { call = asked; node = node; fileid = fileid; run = g }) p
-alike-moved (types.Write handle offset count written) asked node fileid f g p = refl
-alike-moved call asked node fileid f g p = refl
+pub alike-moved : (call asked : types.Call) (caller : Caller) (node : Affinity) (fileid : ℕ) (f g : VolumeState → Effect) (p : VolumeContents)
+    → move_of_located call (record { call = asked; caller = caller; node = node; fileid = fileid; run = f }) p
+    ≡ move_of_located call (record { call = asked; caller = caller; node = node; fileid = fileid; run = g }) p
+alike-moved (types.Write handle offset count written) asked caller node fileid f g p = refl
+alike-moved call asked caller node fileid f g p = refl
 
 -- where such a call leaves all as it is, no block moves
-says-nothing : (call : types.Call) (node : Affinity) (s : Stored) → is_done_once call ≡ true → PartsChange call node s s
+pub says-nothing : (call : types.Call) (node : Affinity) (s : Stored) → is_done_once call ≡ true → PartsChange call node s s
 says-nothing (types.Setattr handle set guard) node s e = emptied-none s.parts s.parts (emptied_by s s) (omega arith) refl refl refl refl
 says-nothing (types.Create directory name mode) node s e = emptied-none s.parts s.parts (emptied_by s s) (omega arith) refl refl refl refl
 says-nothing (types.Remove directory name) node s e = emptied-none s.parts s.parts (emptied_by s s) (omega arith) refl refl refl refl
@@ -116,14 +117,14 @@ nothing-kept memos caller (Some change) moment = refl
 
 module _ (layout : Layout) (named : Named) (caller : Caller) (moment : Moment) (call : types.Call) where
   abbrev plain : VolumeCall
-  plain = effect_named layout named caller moment call
+  plain = allowed_named layout named caller moment call
 
   abbrev whole : VolumeCall
   whole = call_named layout named caller moment call
 
   -- the effect of the call on a volume, and that of its being done once
   abbrev on_it : VolumeState → Effect
-  on_it volume = effect call (other_in layout call) caller moment volume named.fileid
+  on_it volume = allowed call (other_in layout call) caller moment volume named.fileid
 
   abbrev done : Bool → VolumeState → Effect
   done b volume = cond b (once caller call moment volume (on_it volume)) (on_it volume)
@@ -205,7 +206,7 @@ module _ (layout : Layout) (named : Named) (caller : Caller) (moment : Moment) (
 
   same-move : (p : VolumeContents) → move_on whole p ≡ move_on plain p
   same-move p =
-      alike-moved call call (Logical named.volume) named.fileid (λ volume. done (is_done_once call) volume) on_it p
+      alike-moved call call caller (Logical named.volume) named.fileid (λ volume. done (is_done_once call) volume) on_it p
 
   -- what wasn't is done, and remembered where it succeeded
   pub done-runs : (old new : LogicalSet) (outcome : Outcome) → told_before old.own.memos caller call moment ≡ None

@@ -18,7 +18,7 @@ use Rattle.nfs_values.specs.declared.answer.WriteResults.{WriteResults}
 use Rattle.nfs_values.specs.declared.call.Call as codes
 use Rattle.nfs_values.specs.declared.status.Status.{Status}
 use Rattle.service.specs.renames.ChangeLaws.{rename_call}
-use Rattle.service_data.specs.WritingLaws.{write_call}
+use Rattle.filer_state.specs.bytes.Permitted.{write_by}
 use Rattle.filer_state.specs.state.Calls.{VolumeCall, ServesOn, handle_in}
 use Rattle.filer_state.specs.state.Contents.{VolumeContents}
 use Rattle.filer_state.specs.state.Jobs as jobs
@@ -28,7 +28,7 @@ use Rattle.filer_state.specs.state.Running.{RunsOn, UnlessReplied}
 use Rattle.service_data.specs.Writing.{asked_to_write, writing_outcome, written_outcome}
 use Rattle.service.specs.renames.Promises.{Renames, renaming_outcome}
 use Rattle.service.specs.totals.FilesystemStatus.{TellsFilesystemStatus}
-use Rattle.service.specs.Running.{fileid_in, effect_named, call_of_node, call_on}
+use Rattle.service.specs.Running.{fileid_in, allowed_named, effect_named, call_of_node, call_on}
 
 -- an entry of a call is its run
 pub served-runs : (v : ℕ) (c : VolumeCall) (old new : LogicalSet) (answer : types.Answer)
@@ -70,23 +70,23 @@ unless-any (Moved other) A a = a
 pub writing-runs : {S : Type 0} (layout : Layout) (v : ℕ) (lens : Lens VolumeContents S) (node : Affinity) (fileid : ℕ) (call : codes.Call)
     (handle : List ℕ) (offset count : ℕ) (bytes written : List ℕ) (caller : Caller) (moment : Moment) (old new : S)
     (outcome told : works.Outcome) → call_of call ≡ types.Write handle offset count bytes → written ≡ bytes → outcome ≡ told
-    → RunsOn v lens (write_call handle node fileid (asked_to_write offset count written moment)) old told new
+    → RunsOn v lens (write_by handle node fileid (asked_to_write caller offset count written moment)) old told new
     → RunsOn v lens (call_of_node layout node fileid caller moment (call_of call)) old outcome new
 writing-runs layout v lens node fileid call handle offset count bytes written caller moment old new outcome told is same comes right =
     subst (λ (c : Call). RunsOn v lens (call_of_node layout node fileid caller moment c) old outcome new) (sym is)
-    (subst (λ (o : works.Outcome). RunsOn v lens (write_call handle node fileid (asked_to_write offset count bytes moment)) old o new) (sym comes)
-    (subst (λ (bs : List ℕ). RunsOn v lens (write_call handle node fileid (asked_to_write offset count bs moment)) old told new) same right))
+    (subst (λ (o : works.Outcome). RunsOn v lens (write_by handle node fileid (asked_to_write caller offset count bytes moment)) old o new) (sym comes)
+    (subst (λ (bs : List ℕ). RunsOn v lens (write_by handle node fileid (asked_to_write caller offset count bs moment)) old told new) same right))
 
 -- the same under Logical, as where nothing is remembered
 pub writing-effect : (layout : Layout) (named : Named) (call : codes.Call) (handle : List ℕ) (offset count : ℕ) (bytes written : List ℕ)
     (caller : Caller) (moment : Moment) (old new : LogicalSet) (outcome told : works.Outcome) → call_of call ≡ types.Write handle offset count bytes
     → written ≡ bytes → outcome ≡ told
-    → RunsOn named.volume logical_lens (write_call handle (Logical named.volume) named.fileid (asked_to_write offset count written moment)) old told new
-    → RunsOn named.volume logical_lens (effect_named layout named caller moment (call_of call)) old outcome new
+    → RunsOn named.volume logical_lens (write_by handle (Logical named.volume) named.fileid (asked_to_write caller offset count written moment)) old told new
+    → RunsOn named.volume logical_lens (allowed_named layout named caller moment (call_of call)) old outcome new
 writing-effect layout named call handle offset count bytes written caller moment old new outcome told is same comes right =
     let v = named.volume in
-    let asks = λ (bs : List ℕ). write_call handle (Logical v) named.fileid (asked_to_write offset count bs moment) in
-    subst (λ (c : Call). RunsOn v logical_lens (effect_named layout named caller moment c) old outcome new) (sym is)
+    let asks = λ (bs : List ℕ). write_by handle (Logical v) named.fileid (asked_to_write caller offset count bs moment) in
+    subst (λ (c : Call). RunsOn v logical_lens (allowed_named layout named caller moment c) old outcome new) (sym is)
     (subst (λ (o : works.Outcome). RunsOn v logical_lens (asks bytes) old o new) (sym comes)
     (subst (λ (bs : List ℕ). RunsOn v logical_lens (asks bs) old told new) same right))
 

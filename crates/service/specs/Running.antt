@@ -5,7 +5,7 @@ use Rattle.nfs_model.specs.Types.{Ask, Caller, Moment, Stale}
 use Rattle.nfs_model.specs.Tree.{Layout, Affinity, Volume, Logical, stripes_of}
 use Rattle.nfs_model.specs.Route.{Route, AtOnce, OfBytesRead, OfBytesWritten, OfVolume, OfAggregate, OfEverything, route}
 use Rattle.nfs_model.specs.Home.{home_of_route, named_by}
-use Rattle.nfs_model.specs.Locate.{Effect, Fails, on_name}
+use Rattle.nfs_model.specs.Locate.{Effect, Fails, unless, on_name}
 use Rattle.nfs_model.specs.Serial.Getattr.{getattr}
 use Rattle.nfs_model.specs.Serial.Setattr.{setattr}
 use Rattle.nfs_model.specs.Serial.Access.{access}
@@ -21,6 +21,7 @@ use Rattle.nfs_model.specs.Serial.Once.{memos_after, once}
 use Rattle.nfs_model.specs.Memo.{Memo}
 use Rattle.nfs_model.specs.volume.Logical.{LogicalValue}
 use Rattle.nfs_model.specs.Serial.MountBelow.{mount_below}
+use Rattle.nfs_model.specs.Serial.Permission.{refusal}
 use Rattle.nfs_model.specs.Serial.Read.{read}
 use Rattle.nfs_model.specs.Serial.Readdir.{readdir}
 use Rattle.nfs_model.specs.Serial.Readdirplus.{readdirplus}
@@ -91,27 +92,19 @@ IsRunInLogical call = IsInLogical (route (call_of call))
 abbrev pub IsRun : Call → Type 0
 IsRun call = IsOnState (route (call_of call))
 
--- those of any object that tell of it by its attributes
-abbrev pub is_of_object : Call → Bool
-is_of_object (CheckAccess handle asked) = true
-is_of_object (FilesystemInfo handle) = true
-is_of_object (PathConfiguration handle) = true
-is_of_object call = false
-
--- those that ask for a page of a directory, and those of any object
-abbrev pub is_of_page_or_object : Call → Bool
-is_of_page_or_object (ReadDirectory directory cookie verifier count) = true
-is_of_page_or_object (ReadDirectoryPlus directory cookie verifier names_count count) = true
-is_of_page_or_object call = is_of_object call
-
 -- those under Logical that change nothing
 abbrev pub is_told : Call → Bool
 is_told (GetAttributes handle) = true
 is_told (Lookup target) = true
+is_told (CheckAccess handle asked) = true
 is_told (Read handle offset count) = true
+is_told (ReadDirectory directory cookie verifier count) = true
+is_told (ReadDirectoryPlus directory cookie verifier names_count count) = true
+is_told (FilesystemInfo handle) = true
+is_told (PathConfiguration handle) = true
 is_told (Commit handle) = true
 is_told (MountBelow root path) = true
-is_told call = is_of_page_or_object call
+is_told call = false
 
 -- the fileid that a handle names
 abbrev pub fileid_in : Option Named → ℕ
@@ -123,29 +116,29 @@ abbrev pub other_in : Layout → types.Call → ℕ
 other_in layout (types.Rename from from_name to to_name) = fileid_in (named_by layout to)
 other_in layout call = 0
 
--- What the serial server does on the volume of the handle where nothing is remembered, for the calls that are run so far. RENAME is to
+-- What the serial server does on the volume of the handle where nothing is remembered and nothing refused, for the calls that are run. RENAME is to
 -- the directory of another fileid, or of the same.
 abbrev pub effect : types.Call → ℕ → Caller → Moment → VolumeState → ℕ → Effect
 effect (types.Getattr handle) other caller moment = getattr
-effect (types.Setattr handle set guard) other caller moment = setattr set guard moment
+effect (types.Setattr handle set guard) other caller moment = setattr set guard caller moment
 effect (types.Lookup directory name) other caller moment = on_name name moment lookup
-effect (types.CheckAccess handle asked) other caller moment = access asked caller.credential
+effect (types.CheckAccess handle asked) other caller moment = access asked caller
 effect (types.Read handle offset count) other caller moment = read offset count
 effect (types.Write handle offset count written) other caller moment =
-    write (record { offset = offset; count = count; written = written; moment = moment })
-effect (types.Create directory name mode) other caller moment = on_name name moment (create mode caller.credential)
-effect (types.Mkdir directory name set) other caller moment = on_name name moment (mkdir set caller.credential)
+    write (record { caller = caller; offset = offset; count = count; written = written; moment = moment })
+effect (types.Create directory name mode) other caller moment = on_name name moment (create mode caller)
+effect (types.Mkdir directory name set) other caller moment = on_name name moment (mkdir set caller)
 effect (types.Remove directory name) other caller moment = on_name name moment remove_name
 effect (types.Rmdir directory name) other caller moment = on_name name moment rmdir
 effect (types.Rename from from_name to to_name) other caller moment = λ volume fileid. rename from_name to_name moment volume fileid other
 effect (types.Readdir directory cookie verifier count) other caller moment = readdir cookie verifier count
 effect (types.Readdirplus directory cookie verifier names_count count) other caller moment =
-    readdirplus cookie verifier names_count count
+    readdirplus cookie verifier names_count count caller
 effect (types.Fsstat handle) other caller moment = fsstat
 effect (types.Fsinfo handle) other caller moment = fsinfo
-effect (types.Pathconf handle) other caller moment = pathconf
+effect (types.Pathconf handle) other caller moment = pathconf caller
 effect (types.Commit handle) other caller moment = commit
-effect (types.MountBelow root path) other caller moment = mount_below (parts_below path)
+effect (types.MountBelow root path) other caller moment = mount_below (parts_below path) caller
 effect call other caller moment = λ volume fileid. Fails Stale
 
 -- the calls that are done once, also where they come again
@@ -158,16 +151,39 @@ is_done_once (types.Rmdir directory name) = true
 is_done_once (types.Rename from from_name to to_name) = true
 is_done_once call = false
 
+-- the calls that may be refused by the owner, the groups and the mode of objects, or since their caller may change nothing
+abbrev pub is_asked : types.Call → Bool
+is_asked (types.Setattr handle set guard) = true
+is_asked (types.Lookup directory name) = true
+is_asked (types.Read handle offset count) = true
+is_asked (types.Write handle offset count written) = true
+is_asked (types.Create directory name mode) = true
+is_asked (types.Mkdir directory name set) = true
+is_asked (types.Remove directory name) = true
+is_asked (types.Rmdir directory name) = true
+is_asked (types.Rename from from_name to to_name) = true
+is_asked (types.Readdir directory cookie verifier count) = true
+is_asked (types.Readdirplus directory cookie verifier names_count count) = true
+is_asked (types.Commit handle) = true
+is_asked call = false
+
+-- what it does where nothing is remembered
+abbrev pub allowed : types.Call → ℕ → Caller → Moment → VolumeState → ℕ → Effect
+allowed call other caller moment volume fileid =
+    if is_asked call then unless (refusal caller call volume fileid other) (effect call other caller moment volume fileid)
+    else effect call other caller moment volume fileid
+
 -- what it does there
 abbrev pub procedure : types.Call → ℕ → Caller → Moment → VolumeState → ℕ → Effect
 procedure call other caller moment volume fileid =
-    if is_done_once call then once caller call moment volume (effect call other caller moment volume fileid)
-    else effect call other caller moment volume fileid
+    if is_done_once call then once caller call moment volume (allowed call other caller moment volume fileid)
+    else allowed call other caller moment volume fileid
 
 -- a call on a fileid, as it is asked of a volume under a node
 abbrev pub call_of_node : Layout → Affinity → ℕ → Caller → Moment → types.Call → VolumeCall
 call_of_node layout node fileid caller moment call = record {
   call = call;
+  caller = caller;
   node = node;
   fileid = fileid;
   run = λ volume. procedure call (other_in layout call) caller moment volume fileid;
@@ -179,6 +195,11 @@ call_named layout named caller moment call =
     call_of_node layout (Logical named.volume) named.fileid caller moment call
 
 -- the same where nothing is remembered
+abbrev pub allowed_named : Layout → Named → Caller → Moment → types.Call → VolumeCall
+allowed_named layout named caller moment call =
+    record (call_named layout named caller moment call) { run = λ volume. allowed call (other_in layout call) caller moment volume named.fileid }
+
+-- and nothing is refused
 abbrev pub effect_named : Layout → Named → Caller → Moment → types.Call → VolumeCall
 effect_named layout named caller moment call =
     record (call_named layout named caller moment call) { run = λ volume. effect call (other_in layout call) caller moment volume named.fileid }

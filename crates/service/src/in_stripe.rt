@@ -70,7 +70,10 @@ fn run_on_bytes(
             handle: _,
             offset,
             count,
-        } => outcome_read(read_in_stripe(run.alloc, held, fileid, *offset, *count)),
+        } => {
+            let told = read_in_stripe(run.alloc, held, run.caller, fileid, *offset, *count);
+            outcome_read(told)
+        }
         Call::Write {
             handle: _,
             offset,
@@ -78,7 +81,8 @@ fn run_on_bytes(
             bytes,
         } => {
             let written = bytes.as_slice();
-            let told = write_in_stripe(held, fileid, *offset, *count, written, run.moment);
+            let (caller, moment) = (run.caller, run.moment);
+            let told = write_in_stripe(held, caller, fileid, *offset, *count, written, moment);
             outcome_written_in_stripe(volume, told)
         }
         _ => Outcome::Moved(CallNode::Logical(volume.0)),

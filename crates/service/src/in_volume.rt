@@ -50,7 +50,8 @@ pub fn run_on_volume(
             bytes,
         } => {
             let written = bytes.as_slice();
-            let told = write_in_volume(held, fileid, *offset, *count, written, run.moment);
+            let (caller, moment) = (run.caller, run.moment);
+            let told = write_in_volume(held, caller, fileid, *offset, *count, written, moment);
             outcome_written(volume, told)
         }
         Call::FilesystemStatus { .. } => {

@@ -5,6 +5,7 @@
 mod at_node;
 mod attributes;
 mod batch;
+mod changing;
 mod hand_work;
 mod in_aggregate;
 mod in_logical;
@@ -20,6 +21,7 @@ mod outcome;
 mod renames;
 mod repeated;
 mod task;
+mod telling;
 mod totals;
 mod works;
 

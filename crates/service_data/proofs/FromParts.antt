@@ -29,7 +29,7 @@ module _ {A : Type 0} (of : LogicalValue → A) (by_stock : (l : LogicalValue) (
   one-keeps n old new (inr (inr leaves)) =
       ap (λ (s : VolumeSet). of s.logical.own) leaves.left ∙ by_dead old.logical.own (dead_taken (n ∷ []) old.logical.own.dead)
 
-  parts-keep : (ns : List ℕ) (old new : VolumeSet) → LeaveParts ns old new → of new.logical.own ≡ of old.logical.own
+  pub parts-keep : (ns : List ℕ) (old new : VolumeSet) → LeaveParts ns old new → of new.logical.own ≡ of old.logical.own
   parts-keep [] old new leave = ap (λ (s : VolumeSet). of s.logical.own) leave
   parts-keep (n ∷ ns) old new leave = parts-keep ns leave.0 new leave.2 ∙ one-keeps n old leave.0 leave.1
 

@@ -8,6 +8,7 @@ mod Stocked
 mod Told
 mod Written
 mod WrittenUp
+mod Cleared
 mod Parted
 mod Drained
 mod Dealt

@@ -1,9 +1,9 @@
 -- WRITE by what is under Volume, as its checks come out.
-use Rattle.std.proofs.Common.{◌≡◌, ℕ, zero, suc, Bool, List, take, length, Option, Result, Ok, Err, refl, sym, ap, subst}
+use Rattle.std.proofs.Common.{◌≡◌, ℕ, zero, suc, ◌&&◌, Bool, List, take, length, Option, Some, None, Result, Ok, Err, refl, sym, ap, ◌∙◌, subst}
 use Rattle.std.specs.declared.alloc.AllocError.{AllocError}
 use Rattle.std.specs.FinMap.{get}
 use Rattle.nfs_model.specs.Types as types
-use Rattle.nfs_model.specs.Types.{WriteDone, Failed, Success}
+use Rattle.nfs_model.specs.Types.{Ownership, WriteDone, Failed, Success}
 use Rattle.nfs_model.specs.Tree.{Volume}
 use Rattle.nfs_model.specs.Serial.Write.{Writing, bytes_kept}
 use Rattle.nfs_model.specs.Work.{Outcome, Replied, Moved, Starved}
@@ -13,14 +13,18 @@ use Rattle.nfs_values.specs.declared.status.Status.{Status}
 use Rattle.nfs_model.specs.volume.Stripes.{Card}
 use Rattle.filer_state.specs.state.Lenses.{VolumeSet, volume_lens}
 use Rattle.filer_state.specs.state.Running.{RunsOn}
-use Rattle.filer_state.specs.bytes.WritingLaws.{write_call}
+use Rattle.filer_state.specs.bytes.WritingLaws.{plain, write_call}
 use Rattle.filer_state.specs.bytes.WritingUpLaws.{VolumeWriteIsRight, VolumeWriteMayStarve}
+use Rattle.filer_state.specs.bytes.Permitted.{owner_held, write_refused, clears_owned, write_by}
+use Rattle.filer_state.specs.bytes.PermittedLaws.{VolumeWriteIsPermitted, VolumeWriteIsRefused}
 use Rattle.filer_state.specs.bytes.WritingUp.{VolumeWrites, DueInVolume, WrittenWhereFits, WrittenWhereThere, bytes_due}
 use Rattle.service_data.specs.Promises.{IsHeld}
 use Rattle.service_data.specs.Writing.{bytes_to_write, card_shown, written_outcome}
 use Rattle.service_data.specs.WritingInVolume.{IsVolumeHeld, WritesInVolume, ExtendsInVolume, MayStarveInVolume, DoneInVolume}
 use Rattle.service_data.specs.declared.extension.Extension.{Extension}
 use Rattle.service_data.specs.declared.extension.Extension.TheVariants.{Written, NoSpace, Short}
+use Rattle.service_data.specs.SetIds.{tells_written, set_cleared}
+use Rattle.service_data.proofs.Cleared.{has-written}
 use Rattle.service_data.proofs.WrittenUp.{due-told, kept-same, kept-long, more-due}
 
 -- what is held under Volume of a sound volume is held under Logical
@@ -114,9 +118,30 @@ module _ (fileid : ℕ) (w : Writing) (old : VolumeSet) (card : Option Card)
 
 -- ---- what has happened is right
 
-pub right-told : VolumeWriteIsRight → VolumeWriteMayStarve → (fileid : ℕ) (w : Writing) (old new : VolumeSet)
-    (result : Result (Option (Result WriteResults Status)) AllocError) → DoneInVolume fileid w old result new → WritesInVolume fileid w old result new
-right-told right starves fileid w old new (Ok told) done v handle = right v fileid handle w old new (written_outcome v (Ok told)) (done v)
-right-told right starves fileid w old new (Err e) done v handle =
+-- where nothing is asked of the caller
+plainly : VolumeWriteIsRight → VolumeWriteMayStarve → (fileid : ℕ) (w : Writing) (old new : VolumeSet)
+    (result : Result (Option (Result WriteResults Status)) AllocError) → DoneInVolume fileid w old result new → (v : ℕ) (handle : List ℕ)
+    → RunsOn v volume_lens (write_call handle (Volume v) fileid w) old (written_outcome v result) new
+plainly right starves fileid w old new (Ok told) done v handle = right v fileid handle w old new (written_outcome v (Ok told)) (done v)
+plainly right starves fileid w old new (Err e) done v handle =
     subst (λ (s : VolumeSet). RunsOn v volume_lens (write_call handle (Volume v) fileid w) old Starved s) (sym done.1)
     (starves v fileid done.0.more handle w old done.0.due done.0.space done.0.enough done.0.some)
+
+module _ (fileid : ℕ) (w : Writing) (old : VolumeSet) (owner : Option Ownership) (owns : owner ≡ owner_held old.logical fileid) where
+  pub right-denied : VolumeWriteIsRefused → (refusal : Status) → Some (status_of refusal) ≡ write_refused w.caller owner
+      → WritesInVolume fileid w old (Ok (Some (Err refusal))) old
+  right-denied law refusal refuses v handle =
+      law v fileid handle w (status_of refusal) old (ap (write_refused w.caller) (sym owns) ∙ sym refuses)
+
+  pub right-told : VolumeWriteIsRight → VolumeWriteMayStarve → VolumeWriteIsPermitted → None ≡ write_refused w.caller owner
+      → (mid new : VolumeSet) (result : Result (Option (Result WriteResults Status)) AllocError) → DoneInVolume fileid (plain w) old result mid
+      → new ≡ record mid { logical = set_cleared (clears_owned w.caller owner && tells_written result) owner fileid mid.logical }
+      → WritesInVolume fileid w old result new
+  right-told right starves law permits mid new result done cleared v handle =
+      subst (RunsOn v volume_lens (write_by handle (Volume v) fileid w) old (written_outcome v result))
+      ((λ j. record mid {
+        logical = set_cleared (clears_owned w.caller (sym owns j) && has-written v result j) (sym owns j) fileid mid.logical;
+      })
+      ∙ sym cleared)
+      (law v fileid handle w old (written_outcome v result) mid (ap (write_refused w.caller) (sym owns) ∙ sym permits)
+      (plainly right starves fileid (plain w) old mid result done v handle))

@@ -1,5 +1,5 @@
 -- WRITE by what is under Logical, as its checks come out.
-use Rattle.std.proofs.Common.{◌≡◌, ℕ, zero, suc, ◌+◌, ◌≤◌, ◌==◌, min, not, Bool, true, false, List, length, take, Option, Some, None, Result, Ok, Err, nat_lt}
+use Rattle.std.proofs.Common.{◌≡◌, ℕ, zero, suc, ◌+◌, ◌≤◌, ◌==◌, ◌&&◌, min, not, Bool, true, false, List, length, take, Option, Some, None, Result, Ok, Err, nat_lt}
 use Rattle.std.proofs.Common.{refl, sym, ap, ◌∙◌, subst, arith}
 use Rattle.std.specs.Prelude.{if◌then◌else◌}
 use Rattle.std.specs.declared.alloc.AllocError.{AllocError}
@@ -8,9 +8,9 @@ use Rattle.std.proofs.lemmas.List.{length-take, take_min}
 use Rattle.std.proofs.Math.Nat.{mul-le-mul_left}
 use Rattle.std.specs.FinMap.{get}
 use Rattle.nfs_model.specs.Types as types
-use Rattle.nfs_model.specs.Types.{WriteDone, Failed, Success}
+use Rattle.nfs_model.specs.Types.{Ownership, WriteDone, Failed, Success}
 use Rattle.nfs_model.specs.Tree.{Volume, Logical}
-use Rattle.nfs_model.specs.Server.{most_bytes}
+use Rattle.nfs_model.specs.Server.{Attributes, most_bytes}
 use Rattle.nfs_model.specs.Serial.Write.{Writing, bytes_kept}
 use Rattle.nfs_model.specs.Work.{Outcome, Replied, Moved, Starved}
 use Rattle.nfs_values.specs.Status.{status_of}
@@ -23,14 +23,19 @@ use Rattle.nfs_model.specs.volume.Stripes.{Card}
 use Rattle.filer_state.specs.state.Lenses.{LogicalSet, logical_lens}
 use Rattle.filer_state.specs.state.Running.{RunsOn}
 use Rattle.filer_state.specs.state.Tree.{ranges_used}
+use Rattle.filer_state.specs.state.WellFormed.{owner_by}
 use Rattle.filer_state.specs.laws.lemmas.Limits.{used-fits, ranges-fit}
-use Rattle.filer_state.specs.bytes.WritingLaws.{write_call}
+use Rattle.filer_state.specs.bytes.WritingLaws.{plain, write_call}
 use Rattle.filer_state.specs.bytes.WritingUpLaws.{LogicalWriteIsRight, LogicalWriteMayStarve}
+use Rattle.filer_state.specs.bytes.Permitted.{owner_on, owner_at, owner_held, write_refused, clears_owned, write_by}
+use Rattle.filer_state.specs.bytes.PermittedLaws.{LogicalWriteIsPermitted, LogicalWriteIsRefused}
 use Rattle.filer_state.specs.bytes.WritingUp.{LogicalWrites, DueInLogical, WrittenWhereEnough, kind_due, bytes_due}
 use Rattle.service_data.specs.Promises.{IsHeld}
 use Rattle.service_data.specs.Holes.{HasRoom, Extends}
 use Rattle.service_data.specs.Writing.{bytes_to_write, kind_card, card_shown, written_outcome, MayStarve, DoneInLogical, WritesInLogical}
+use Rattle.service_data.specs.SetIds.{tells_written, set_cleared}
 use Rattle.service_data.proofs.Written.{given-some}
+use Rattle.service_data.proofs.Cleared.{has-written}
 
 -- ---- the checks
 
@@ -57,8 +62,9 @@ module _ (largest : ℕ) (w : Writing) where
       by true n = refl
       by false n = refl
 
-  kind-is : (k : InodeKind) → kind_due k largest w ≡ as_due (bytes_to_write (Some (kind_card k)) largest w.offset w.count (length w.written))
-  kind-is (RegularFile size filled verifier) = by (w.count == length w.written) refl (w.count == 0)
+  kind-is : (a : Attributes) (k : InodeKind)
+      → kind_due k largest w ≡ as_due (bytes_to_write (Some (kind_card a k)) largest w.offset w.count (length w.written))
+  kind-is a (RegularFile size filled verifier) = by (w.count == length w.written) refl (w.count == 0)
     where
       by : (b : Bool) → (w.count == length w.written) ≡ b → (t : Bool)
           → (if not b then Err types.Invalid
@@ -70,11 +76,11 @@ module _ (largest : ℕ) (w : Writing) where
       by false e t = refl
       by true e true = refl
       by true e false = some-due e
-  kind-is (DirectoryKind parent subdirectories) = refl
+  kind-is a (DirectoryKind parent subdirectories) = refl
 
   due-is : (o : Option Inode) → bytes_due o largest w ≡ as_due (bytes_to_write (card_shown o) largest w.offset w.count (length w.written))
   due-is None = refl
-  due-is (Some inode) = kind-is inode.kind
+  due-is (Some inode) = kind-is inode.attributes inode.kind
 
 -- ---- what follows
 
@@ -182,9 +188,39 @@ module _ (fileid : ℕ) (set : LogicalSet) (whole : IsHeld set) where
 
 -- ---- what has happened is right
 
-pub right-done : LogicalWriteIsRight → LogicalWriteMayStarve → (fileid : ℕ) (w : Writing) (old new : LogicalSet)
-    (result : Result (Option (Result WriteResults Status)) AllocError) → DoneInLogical fileid w old result new → WritesInLogical fileid w old result new
-right-done right starves fileid w old new (Ok told) done v handle = right v fileid handle w old new (written_outcome v (Ok told)) (done v)
-right-done right starves fileid w old new (Err e) done v handle =
+-- where nothing is asked of the caller
+plainly : LogicalWriteIsRight → LogicalWriteMayStarve → (fileid : ℕ) (w : Writing) (old new : LogicalSet)
+    (result : Result (Option (Result WriteResults Status)) AllocError) → DoneInLogical fileid w old result new → (v : ℕ) (handle : List ℕ)
+    → RunsOn v logical_lens (write_call handle (Logical v) fileid w) old (written_outcome v result) new
+plainly right starves fileid w old new (Ok told) done v handle = right v fileid handle w old new (written_outcome v (Ok told)) (done v)
+plainly right starves fileid w old new (Err e) done v handle =
     subst (λ (s : LogicalSet). RunsOn v logical_lens (write_call handle (Logical v) fileid w) old Starved s) (sym done.1)
     (starves v fileid done.0.more handle w old done.0.due done.0.enough done.0.some)
+
+-- who owns the file is on the card that it has
+pub owner-held : (fileid : ℕ) (set : LogicalSet) (owner : Option Ownership) (card : Option Card) → owner ≡ owner_on card
+    → card ≡ card_shown (get set.own.inodes.inodes fileid) → owner ≡ owner_held set fileid
+owner-held fileid set owner card owns found = owns ∙ ap owner_on found ∙ by (get set.own.inodes.inodes fileid)
+  where
+    kind : (a : Attributes) (k : InodeKind) → owner_on (Some (kind_card a k)) ≡ owner_by a k
+    kind a (RegularFile size filled verifier) = refl
+    kind a (DirectoryKind parent subdirectories) = refl
+
+    by : (o : Option Inode) → owner_on (card_shown o) ≡ owner_at o
+    by None = refl
+    by (Some inode) = kind inode.attributes inode.kind
+
+module _ (fileid : ℕ) (w : Writing) (old : LogicalSet) (owner : Option Ownership) (owns : owner ≡ owner_held old fileid) where
+  pub right-refused : LogicalWriteIsRefused → (refusal : Status) → Some (status_of refusal) ≡ write_refused w.caller owner
+      → WritesInLogical fileid w old (Ok (Some (Err refusal))) old
+  right-refused law refusal refuses v handle =
+      law v fileid handle w (status_of refusal) old (ap (write_refused w.caller) (sym owns) ∙ sym refuses)
+
+  pub right-done : LogicalWriteIsRight → LogicalWriteMayStarve → LogicalWriteIsPermitted → None ≡ write_refused w.caller owner
+      → (mid new : LogicalSet) (result : Result (Option (Result WriteResults Status)) AllocError) → DoneInLogical fileid (plain w) old result mid
+      → new ≡ set_cleared (clears_owned w.caller owner && tells_written result) owner fileid mid → WritesInLogical fileid w old result new
+  right-done right starves law permits mid new result done cleared v handle =
+      subst (RunsOn v logical_lens (write_by handle (Logical v) fileid w) old (written_outcome v result))
+      ((λ j. set_cleared (clears_owned w.caller (sym owns j) && has-written v result j) (sym owns j) fileid mid) ∙ sym cleared)
+      (law v fileid handle w old (written_outcome v result) mid (ap (write_refused w.caller) (sym owns) ∙ sym permits)
+      (plainly right starves fileid (plain w) old mid result done v handle))

@@ -12,7 +12,7 @@ use Rattle.filer_state.specs.state.Lenses.{VolumeSet, volume_lens}
 use Rattle.filer_state.specs.state.Promises.{HasVolume}
 use Rattle.filer_state.specs.state.Running.{RunsOn}
 use Rattle.filer_state.specs.bytes.Extending.{holes, file_extended}
-use Rattle.filer_state.specs.bytes.WritingLaws.{write_call}
+use Rattle.filer_state.specs.bytes.Permitted.{write_by}
 use Rattle.filer_state.specs.bytes.WritingUp.{LeaveParts, VolumeWrites, all_blocks, bytes_due, for_holes}
 use Rattle.service_data.specs.Holes.{extending_by}
 use Rattle.service_data.specs.Writing.{written_outcome}
@@ -28,7 +28,7 @@ IsVolumeHeld set = (v : ℕ) × HasVolume v volume_lens [] set
 -- A run of WRITE of a fileid by what is under Volume is right: by whatever handle, and whatever the rest of the volume is.
 abbrev pub WritesInVolume : ℕ → Writing → VolumeSet → Result (Option (Result WriteResults Status)) AllocError → VolumeSet → Type 0
 WritesInVolume fileid w old result new = (v : ℕ) (handle : List ℕ)
-    → RunsOn v volume_lens (write_call handle (Volume v) fileid w) old (written_outcome v result) new
+    → RunsOn v volume_lens (write_by handle (Volume v) fileid w) old (written_outcome v result) new
 
 -- ---- what comes of it
 
@@ -72,7 +72,7 @@ pub record MayStarveInVolume (fileid : ℕ) (w : Writing) (s : VolumeSet) : Type
   pub enough : lacks_numbers fileid w.offset (bytes_kept w) s ≡ false
   pub some : 0 < hole_count fileid w.offset (bytes_kept w) s
 
--- what has happened, by the definitions: on the volume of any number, where memory didn't run out
+-- what has happened, by the definitions, where nothing is asked of the caller: on the volume of any number, where memory didn't run out
 abbrev pub DoneInVolume : ℕ → Writing → VolumeSet → Result (Option (Result WriteResults Status)) AllocError → VolumeSet → Type 0
 DoneInVolume fileid w old (Ok told) new = (v : ℕ) → VolumeWrites v fileid w old (written_outcome v (Ok told)) new
 DoneInVolume fileid w old (Err e) new = MayStarveInVolume fileid w old × (new ≡ old)

@@ -63,6 +63,7 @@ pub(crate) fn extend(
     ensures short { IfOk result (λ done. done ≡ false → held.new ≡ held.old) }
     ensures starved { OnErr result (held.new ≡ held.old) }
     ensures alike { logical_alike held.old held.new }
+    ensures stripes { HasStripes held.new }
 {
     let mut found = [0; 17];
     let count = find_holes(held, fileid, offset, written.len(), &mut found);
@@ -102,6 +103,7 @@ pub(crate) fn extend_in_volume(
     ensures short { IfOk result (λ done. done ≡ Short → held.new ≡ held.old) }
     ensures starved { OnErr result (held.new ≡ held.old) }
     ensures alike { volume_alike held.old held.new }
+    ensures stripes { HasStripes held.new.logical }
 {
     let mut found = [0; 17];
     let count = find_holes(&held.logical, fileid, offset, written.len(), &mut found);
@@ -141,6 +143,7 @@ fn fill_and_write(
     ensures starved { OnErr result (held.new ≡ held.old) }
     ensures some { OnErr result (0 < length found.now) }
     ensures alike { volume_alike held.old held.new }
+    ensures stripes { HasStripes held.new.logical }
 {
     match fill_holes(&mut held.logical, fileid, found) {
         Ok(()) => {}

@@ -13,12 +13,14 @@ ghost use Rattle.std.specs.Prelude.{
 };
 ghost use Rattle.nfs_model.specs.Home.{span_bytes};
 ghost use Rattle.nfs_values.specs.Moment.{moment_of};
+ghost use Rattle.nfs_values.specs.Ownership.{ownership_of};
 ghost use Rattle.nfs_model.specs.volume.Stripes.{
   stripe_of,
   is_filled,
   block_inserted,
   block_taken,
   block_numbered,
+  file_card_owned,
   overwritten,
 };
 ghost use Rattle.filer_state.specs.state.Sets.{logical_before, stripe_value};
@@ -32,7 +34,7 @@ ghost use Rattle.service_data.specs.Places.{
 };
 
 use filer_state::Files;
-use nfs_values::{BLOCK_BYTES, BlockNumber, Fileid, Moment, SPAN_BLOCKS};
+use nfs_values::{BLOCK_BYTES, BlockNumber, Fileid, Moment, Ownership, SPAN_BLOCKS};
 use parcels::{LogicalHeld, StripeHeld};
 use std::alloc::AllocError;
 use stripe_cards::Card;
@@ -210,13 +212,30 @@ fn grow_card(stripe: &mut Stripe, fileid: Fileid, size: u64)
     ensures { stripe.new ≡ stripe_grown fileid.0 size stripe.old }
 {
     match stripe.card(fileid) {
-        Some(
-            Card::File {
-                size: shown,
-                touch: _,
-            },
-        ) => stripe.set_size(fileid, shown.max(size)),
+        Some(Card::File { size: shown, .. }) => stripe.set_size(fileid, shown.max(size)),
         Some(Card::Directory) => {}
         None => {}
+    }
+}
+
+/// Shows an owner on a file's card in each stripe. It takes no memory.
+pub(crate) fn own_cards(held: &mut LogicalHeld<Files>, fileid: Fileid, owner: Ownership)
+    requires { HasStripes held.old }
+    ensures { StripesChanged (map (file_card_owned fileid.0 (ownership_of owner)))
+        held.old held.new }
+{
+    let count = held.own.get().stripes as usize;
+    for place in 0..count {
+        own_in(&mut held.stripes.at[place], fileid, owner);
+    }
+}
+
+/// Shows an owner on a file's card in the stripe in a place.
+fn own_in(place: &mut Option<StripeHeld<Files>>, fileid: Fileid, owner: Ownership)
+    ensures { place.new
+        ≡ place_changed (file_card_owned fileid.0 (ownership_of owner)) place.old }
+{
+    if let Some(stripe) = place {
+        stripe.own.get_mut().set_owner(fileid, owner);
     }
 }

@@ -6,8 +6,10 @@ mod extending;
 mod extension;
 mod holes;
 mod homes;
+mod owners;
 mod parts;
 mod reading;
+mod set_ids;
 mod spans;
 mod writing;
 

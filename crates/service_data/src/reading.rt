@@ -5,6 +5,7 @@ ghost use Rattle.std.specs.Option.{option_map};
 ghost use Rattle.nfs_model.specs.Server.{most_bytes};
 ghost use Rattle.nfs_model.specs.Types as types;
 ghost use Rattle.nfs_values.specs.Answer.{result_of};
+ghost use Rattle.nfs_values.specs.Caller.{caller_of};
 ghost use Rattle.inodes.specs.Inode.{inode_value};
 ghost use Rattle.stripe_cards.specs.Cards.{card_of};
 ghost use Rattle.filer_state.specs.state.Sets.{logical_before};
@@ -16,31 +17,39 @@ ghost use Rattle.service_data.specs.Promises.{
   IsHeld,
 };
 
+use crate::owners::{owner_of, owner_on, refusal_of_read};
 use crate::spans::read_spans;
 use filer_state::Files;
 use inodes::{Inode, InodeKind};
 use nfs_values::answer::ReadResults;
-use nfs_values::{BytesRead, COUNT_LIMIT, Fileid, Status, room_to_read};
+use nfs_values::{BytesRead, COUNT_LIMIT, Caller, Fileid, Status, room_to_read};
 use parcels::{LogicalHeld, StripeHeld};
 use std::alloc::{AllocError, Global};
 use stripe_cards::Card;
 
 /// READ (RFC 1813 section 3.3.6), on the parcel of the stripe in which its bytes lie, those from
-/// the offset on, as many as the count, at most 65,536: STALE, or INVAL for a directory; else the
-/// bytes before the end of the file, and whether they reach it. Memory runs out only where bytes
-/// would be given.
+/// the offset on, as many as the count, at most 65,536: ACCES where the file may not be read;
+/// STALE, or INVAL for a directory; else the bytes before the end of the file, and whether they
+/// reach it. Memory runs out only where bytes would be given.
 pub fn read_in_stripe(
     alloc: Global,
     held: &StripeHeld<Files>,
+    caller: &Caller,
     fileid: Fileid,
     offset: u64,
     count: u32,
 ) -> Result<Result<ReadResults, Status>, AllocError>
     requires span { LieInOneSpan offset (min count most_bytes) }
-    ensures right { ReadsInStripe fileid.0 offset count held.now.own result }
+    ensures right { ReadsInStripe (caller_of caller.now) fileid.0 offset count held.now.own
+        result }
 {
     let stripe = held.own.get();
-    let size = match size_on(stripe.card(fileid)) {
+    let card = stripe.card(fileid);
+    match refusal_of_read(caller, owner_on(card)) {
+        Some(refusal) => return Ok(Err(refusal)),
+        None => {}
+    }
+    let size = match size_on(card) {
         Ok(size) => size,
         Err(status) => return Ok(Err(status)),
     };
@@ -58,14 +67,21 @@ pub fn read_in_stripe(
 pub fn read_in_logical(
     alloc: Global,
     held: &LogicalHeld<Files>,
+    caller: &Caller,
     fileid: Fileid,
     offset: u64,
     count: u32,
 ) -> Result<Result<ReadResults, Status>, AllocError>
     requires whole { IsHeld (logical_before held.now) }
-    ensures right { ReadsInLogical fileid.0 offset count (logical_before held.now) result }
+    ensures right { ReadsInLogical (caller_of caller.now) fileid.0 offset count
+        (logical_before held.now) result }
 {
-    let size = match size_of(held.own.get().inodes.get(fileid)) {
+    let inode = held.own.get().inodes.get(fileid);
+    match refusal_of_read(caller, owner_of(inode)) {
+        Some(refusal) => return Ok(Err(refusal)),
+        None => {}
+    }
+    let size = match size_of(inode) {
         Ok(size) => size,
         Err(status) => return Ok(Err(status)),
     };
@@ -93,7 +109,7 @@ fn size_on(card: Option<Card>) -> Result<u64, Status>
         → on_card (option_map card_of card) told ≡ result_of told 1 result }
 {
     match card {
-        Some(Card::File { size, touch: _ }) => Ok(size),
+        Some(Card::File { size, .. }) => Ok(size),
         Some(Card::Directory) => Err(Status::Invalid),
         None => Err(Status::Stale),
     }

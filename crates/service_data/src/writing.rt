@@ -2,11 +2,14 @@
 
 ghost use Rattle.std.specs.Prelude.{◌≡◌, min, IfNone, IfOk, None, OnErr};
 ghost use Rattle.std.specs.Option.{option_map};
+ghost use Rattle.nfs_values.specs.Caller.{caller_of};
 ghost use Rattle.nfs_values.specs.Moment.{moment_of};
 ghost use Rattle.stripe_cards.specs.Cards.{card_of};
 ghost use Rattle.inodes.specs.Inode.{inode_value};
+ghost use Rattle.nfs_model.specs.volume.Inodes.{inode_of};
 ghost use Rattle.nfs_model.specs.Server.{most_bytes};
 ghost use Rattle.parcels.specs.Filled.{logical_alike, volume_alike};
+ghost use Rattle.filer_state.specs.state.Calls.{unasked};
 ghost use Rattle.filer_state.specs.state.Sets.{
   logical_before,
   logical_after,
@@ -14,6 +17,7 @@ ghost use Rattle.filer_state.specs.state.Sets.{
   volume_after,
 };
 ghost use Rattle.service_data.specs.Promises.{IsHeld, LieInOneSpan};
+ghost use Rattle.service_data.specs.Stripes.{HasStripes};
 ghost use Rattle.service_data.specs.Writing.{
   asked_to_write,
   bytes_to_write,
@@ -26,22 +30,26 @@ ghost use Rattle.service_data.specs.WritingInVolume.{DoneInVolume, IsVolumeHeld,
 
 use crate::extending::{extend, extend_in_volume};
 use crate::extension::Extension;
+use crate::owners::{ends_set_ids, owner_on, refusal_of_write};
+use crate::set_ids::clear_set_ids;
 use filer_state::Files;
-use filer_state::bytes::writing_calls_are_right;
+use filer_state::bytes::{writes_are_permitted, writing_calls_are_right};
 use inodes::{Inode, InodeKind};
 use nfs_values::answer::WriteResults;
-use nfs_values::{COUNT_LIMIT, Fileid, Moment, Status};
+use nfs_values::{COUNT_LIMIT, Caller, Fileid, Moment, Status};
 use parcels::{LogicalHeld, StripeHeld, VolumeHeld};
 use std::alloc::AllocError;
 use stripe_cards::Card;
 
 /// WRITE (RFC 1813 section 3.3.7), on the parcel of the stripe in which its bytes lie, as many as
-/// the count, at most 65,536: STALE, INVAL for a directory or for a count that isn't the number of
-/// bytes, FBIG; else the bytes are written over those that are there, at a moment. Where they would
-/// extend the file or fill a hole nothing changes, and it has to move to Volume Logical: `None`. It
+/// the count, at most 65,536: ROFS or ACCES where the caller may not write the file; STALE, INVAL
+/// for a directory or for a count that isn't the number of bytes, FBIG; else the bytes are written
+/// over those that are there, at a moment. Where they would extend the file, fill a hole or end
+/// that it is run as its owner nothing changes, and it has to move to Volume Logical: `None`. It
 /// takes no memory.
 pub fn write_in_stripe(
     held: &mut StripeHeld<Files>,
+    caller: &Caller,
     fileid: Fileid,
     offset: u64,
     count: u32,
@@ -50,19 +58,28 @@ pub fn write_in_stripe(
 ) -> Option<Result<WriteResults, Status>>
     requires span { LieInOneSpan offset (min count most_bytes) }
     ensures right { WritesInStripe fileid.0
-        (asked_to_write offset count written.now (moment_of moment))
+        (asked_to_write (caller_of caller.now) offset count written.now
+        (moment_of moment))
         held.old.own result held.new.own }
     ensures moved { IfNone result (held.new ≡ held.old) }
 {
     let stripe = held.own.get_mut();
     let verifier = stripe.verifier();
     let card = stripe.card(fileid);
+    let owner = owner_on(card);
+    match refusal_of_write(caller, owner) {
+        Some(refusal) => return Some(Err(refusal)),
+        None => {}
+    }
     let given = match bytes_to_write(card, stripe.largest(), offset, count, written.len()) {
         Ok(given) => given,
         Err(status) => return Some(Err(status)),
     };
     if given == 0 {
         return Some(Ok(WriteResults { count: 0, verifier }));
+    }
+    if ends_set_ids(caller, owner) {
+        return None;
     }
     if !stripe.overwrite(fileid, offset, &written[..given], moment) {
         return None;
@@ -74,11 +91,13 @@ pub fn write_in_stripe(
 }
 
 /// WRITE, likewise, on the parcels under Volume Logical, wherever its bytes lie: a file that is too
-/// short is extended, and holes are filled with blocks of the stock. Where the stock has too few
-/// nothing changes, and it has to move to Volume: `None`. Memory runs out only where a hole is to
-/// be filled, and then nothing has changed.
+/// short is extended, and holes are filled with blocks of the stock; where bytes are written by
+/// another than uid 0 the file isn't run as its owner or its group any more. Where the stock has
+/// too few nothing changes, and it has to move to Volume: `None`. Memory runs out only where a hole
+/// is to be filled, and then nothing has changed.
 pub fn write_in_logical(
     held: &mut LogicalHeld<Files>,
+    caller: &Caller,
     fileid: Fileid,
     offset: u64,
     count: u32,
@@ -87,19 +106,31 @@ pub fn write_in_logical(
 ) -> Result<Option<Result<WriteResults, Status>>, AllocError>
     requires whole { IsHeld (logical_before held.old) }
     ensures right { WritesInLogical fileid.0
-        (asked_to_write offset count written.now (moment_of moment))
+        (asked_to_write (caller_of caller.now) offset count written.now
+        (moment_of moment))
         (logical_before held.old) result (logical_after held.old held.new) }
     ensures moved { IfOk result (λ told. told ≡ None → held.new ≡ held.old) }
     ensures starved { OnErr result (held.new ≡ held.old) }
     ensures alike { logical_alike held.old held.new }
 {
     writing_calls_are_right();
-    done_in_logical(held, fileid, offset, count, written, moment)
+    writes_are_permitted();
+    let card = card_of_inode(held.own.get().inodes.get(fileid));
+    let owner = owner_on(card);
+    match refusal_of_write(caller, owner) {
+        Some(refusal) => return Ok(Some(Err(refusal))),
+        None => {}
+    }
+    let told = done_in_logical(held, card, fileid, offset, count, written, moment);
+    clear_set_ids(held, caller, fileid, owner, &told);
+    told
 }
 
-/// What WRITE comes to on the parcels under Volume Logical.
+/// What WRITE comes to on the parcels under Volume Logical, where it isn't refused and but for the
+/// set-id bits, to a file with this card.
 fn done_in_logical(
     held: &mut LogicalHeld<Files>,
+    card: Option<Card>,
     fileid: Fileid,
     offset: u64,
     count: u32,
@@ -107,8 +138,10 @@ fn done_in_logical(
     moment: Moment,
 ) -> Result<Option<Result<WriteResults, Status>>, AllocError>
     requires whole { IsHeld (logical_before held.old) }
+    requires card { option_map card_of card ≡ card_shown (inode_of held.old.own.inodes fileid.0) }
+    ensures stripes { HasStripes held.new }
     ensures done { DoneInLogical fileid.0
-        (asked_to_write offset count written.now (moment_of moment))
+        (asked_to_write unasked offset count written.now (moment_of moment))
         (logical_before held.old) result (logical_after held.old held.new) }
     ensures moved { IfOk result (λ told. told ≡ None → held.new ≡ held.old) }
     ensures starved { OnErr result (held.new ≡ held.old) }
@@ -116,7 +149,6 @@ fn done_in_logical(
 {
     let logical = held.own.get();
     let verifier = logical.verifier;
-    let card = card_of_inode(logical.inodes.get(fileid));
     let given = match bytes_to_write(card, logical.largest, offset, count, written.len()) {
         Ok(given) => given,
         Err(status) => return Ok(Some(Err(status))),
@@ -140,6 +172,7 @@ fn done_in_logical(
 /// Memory runs out only where a hole is to be filled, and then nothing has changed.
 pub fn write_in_volume(
     held: &mut VolumeHeld<Files>,
+    caller: &Caller,
     fileid: Fileid,
     offset: u64,
     count: u32,
@@ -148,19 +181,31 @@ pub fn write_in_volume(
 ) -> Result<Option<Result<WriteResults, Status>>, AllocError>
     requires whole { IsVolumeHeld (volume_before held.old) }
     ensures right { WritesInVolume fileid.0
-        (asked_to_write offset count written.now (moment_of moment))
+        (asked_to_write (caller_of caller.now) offset count written.now
+        (moment_of moment))
         (volume_before held.old) result (volume_after held.old held.new) }
     ensures moved { IfOk result (λ told. told ≡ None → held.new ≡ held.old) }
     ensures starved { OnErr result (held.new ≡ held.old) }
     ensures alike { volume_alike held.old held.new }
 {
     writing_calls_are_right();
-    done_in_volume(held, fileid, offset, count, written, moment)
+    writes_are_permitted();
+    let card = card_of_inode(held.logical.own.get().inodes.get(fileid));
+    let owner = owner_on(card);
+    match refusal_of_write(caller, owner) {
+        Some(refusal) => return Ok(Some(Err(refusal))),
+        None => {}
+    }
+    let told = done_in_volume(held, card, fileid, offset, count, written, moment);
+    clear_set_ids(&mut held.logical, caller, fileid, owner, &told);
+    told
 }
 
-/// What WRITE comes to on the parcels under Volume.
+/// What WRITE comes to on the parcels under Volume, where it isn't refused and but for the set-id
+/// bits, to a file with this card.
 fn done_in_volume(
     held: &mut VolumeHeld<Files>,
+    card: Option<Card>,
     fileid: Fileid,
     offset: u64,
     count: u32,
@@ -168,8 +213,11 @@ fn done_in_volume(
     moment: Moment,
 ) -> Result<Option<Result<WriteResults, Status>>, AllocError>
     requires whole { IsVolumeHeld (volume_before held.old) }
+    requires card { option_map card_of card
+        ≡ card_shown (inode_of held.old.logical.own.inodes fileid.0) }
+    ensures stripes { HasStripes held.new.logical }
     ensures done { DoneInVolume fileid.0
-        (asked_to_write offset count written.now (moment_of moment))
+        (asked_to_write unasked offset count written.now (moment_of moment))
         (volume_before held.old) result (volume_after held.old held.new) }
     ensures moved { IfOk result (λ told. told ≡ None → held.new ≡ held.old) }
     ensures starved { OnErr result (held.new ≡ held.old) }
@@ -177,7 +225,6 @@ fn done_in_volume(
 {
     let logical = held.logical.own.get();
     let verifier = logical.verifier;
-    let card = card_of_inode(logical.inodes.get(fileid));
     let given = match bytes_to_write(card, logical.largest, offset, count, written.len()) {
         Ok(given) => given,
         Err(status) => return Ok(Some(Err(status))),
@@ -200,8 +247,13 @@ fn done_in_volume(
 fn card_of_inode(inode: Option<Inode>) -> Option<Card>
     ensures { option_map card_of result ≡ card_shown (option_map inode_value inode) }
 {
-    match inode?.kind {
-        InodeKind::RegularFile { size, .. } => Some(Card::File { size, touch: None }),
+    let inode = inode?;
+    match inode.kind {
+        InodeKind::RegularFile { size, .. } => Some(Card::File {
+            size,
+            touch: None,
+            owner: inode.attributes.ownership(),
+        }),
         InodeKind::Directory { .. } => Some(Card::Directory),
     }
 }
@@ -219,7 +271,7 @@ fn bytes_to_write(
     ensures { result ≡ bytes_to_write (option_map card_of card) largest offset count byte_count }
 {
     match card {
-        Some(Card::File { size: _, touch: _ }) => {}
+        Some(Card::File { .. }) => {}
         Some(Card::Directory) => return Err(Status::Invalid),
         None => return Err(Status::Stale),
     }

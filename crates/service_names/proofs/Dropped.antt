@@ -13,7 +13,7 @@ use Rattle.service_names.proofs.Putting.{there}
 
 module _ {P : Type 0} where
   -- lists that are as long have the same places
-  as-long : (old now : List (Option (FilerStripe P))) (i : ℕ) (y : Option (FilerStripe P)) → length now ≡ length old
+  pub as-long : (old now : List (Option (FilerStripe P))) (i : ℕ) (y : Option (FilerStripe P)) → length now ≡ length old
       → slice_get old i ≡ None → slice_get now i ≡ Some y → ⊥
   as-long old now i y long e h =
       let less = get-there now i y h in

@@ -1,5 +1,6 @@
 mod Latest
 mod Taking
+mod Settling
 mod Freed
 mod Sized
 mod Carded
@@ -22,3 +23,4 @@ mod News
 mod Made
 mod Objects
 mod Mounted
+mod Refused

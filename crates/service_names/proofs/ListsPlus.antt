@@ -5,7 +5,7 @@ use Rattle.std.proofs.lemmas.Bool.Decides.{nat_tests}
 use Rattle.std.specs.Prelude.{min, not, ◌&&◌, ◌==◌, nat_lt, if◌then◌else◌}
 use Rattle.std.specs.Result.{IsErr}
 use Rattle.std.specs.declared.alloc.AllocError.{AllocError}
-use Rattle.nfs_model.specs.Types.{Listed, ListedPlus, Shown, Answer, Success, ReaddirplusDone, Failed, BadCookie, TooSmall}
+use Rattle.nfs_model.specs.Types.{Caller, DirectoryKind, Listed, ListedPlus, Shown, Answer, Success, ReaddirplusDone, Failed, BadCookie, TooSmall}
 use Rattle.nfs_model.specs.Tree.{Logical}
 use Rattle.nfs_model.specs.Server.{most_bytes}
 use Rattle.nfs_model.specs.Work as works
@@ -21,10 +21,11 @@ use Rattle.filer_state.specs.state.Lenses.{LogicalSet, logical_lens}
 use Rattle.filer_state.specs.state.Running.{RunsOn}
 use Rattle.filer_state.specs.state.Calls.{answer_of}
 use Rattle.filer_state.specs.state.Changes.{shown_inode}
-use Rattle.filer_state.specs.changes.NameAnswers.{is_bad_cookie, entry_told, readdirplus_answer}
+use Rattle.filer_state.specs.changes.NameAnswers.{is_bad_cookie, entry_for, readdirplus_answer}
 use Rattle.filer_state.specs.changes.NameLaws.{readdirplus_call}
 use Rattle.filer_state.specs.changes.ListingPlusLemmas.{readdirplus-right, readdirplus-starves}
-use Rattle.service_names.specs.Listing.{all_under, PageWithNodes, with_nodes, tells_no_node}
+use Rattle.nfs_model.specs.Serial.Rights.{may_search, protected}
+use Rattle.service_names.specs.Listing.{all_under, entry_if, PageWithNodes, with_nodes, tells_no_node}
 use Rattle.service_names.specs.Listing as listings
 use Rattle.service_names.specs.Promises.{ListsPlus}
 use Rattle.service_names.specs.declared.listing_plus.PagePlusAsked.{PagePlusAsked}
@@ -94,33 +95,33 @@ module _ (n : ℕ) (told : Listed → ListedPlus) (directory : Shown) where
 
 -- ---- what it comes to
 
-module _ (v fileid : ℕ) (asked : PagePlusAsked) (set : LogicalSet) where
+module _ (v fileid : ℕ) (asked : PagePlusAsked) (caller : Caller) (set : LogicalSet) where
   abbrev answer : Answer
-  answer = readdirplus_answer v fileid asked.cookie.0 asked.verifier.0 asked.names_count asked.count set
+  answer = readdirplus_answer v fileid asked.cookie.0 asked.verifier.0 asked.names_count asked.count caller set
 
   -- a result is right where it tells what the inode and the entries do
   pub lists : (told : Result ReadDirectoryPlusResults Status) → answers.answer_of (ReadDirectoryPlus told) ≡ answer
-      → ListsPlus v fileid asked set (Ok told)
+      → ListsPlus v fileid asked caller set (Ok told)
   lists told is handle =
       subst (λ (a : Answer). RunsOn v logical_lens
-      (readdirplus_call handle (Logical v) fileid asked.cookie.0 asked.verifier.0 asked.names_count asked.count) set
+      (readdirplus_call handle (Logical v) fileid asked.cookie.0 asked.verifier.0 asked.names_count asked.count caller) set
       (works.Replied (Success a)) set) (sym is)
       (λ p hands hands' made has numbered sound moved.
-      let r = readdirplus-right v fileid handle (Logical v) asked.cookie.0 asked.verifier.0 asked.names_count asked.count set p hands hands' made has
+      let r = readdirplus-right v fileid handle (Logical v) asked.cookie.0 asked.verifier.0 asked.names_count asked.count caller set p hands hands' made has
       numbered sound moved in
       (r.0.0, r.1))
 
   -- and memory may run out where it would list
   pub starves : (r : Result (Result ReadDirectoryPlusResults Status) AllocError) → IsErr r → (directory : Shown) (page : List ListedPlus) (eof : Bool)
-      → answer ≡ ReaddirplusDone directory page eof → ListsPlus v fileid asked set r
+      → answer ≡ ReaddirplusDone directory page eof → ListsPlus v fileid asked caller set r
   starves (Ok told) failed directory page eof would handle = absurd cc
   starves (Err e) failed directory page eof would handle =
-      readdirplus-starves v fileid handle (Logical v) asked.cookie.0 asked.verifier.0 asked.names_count asked.count set directory page eof would
+      readdirplus-starves v fileid handle (Logical v) asked.cookie.0 asked.verifier.0 asked.names_count asked.count caller set directory page eof would
 
   -- what is told of a directory by a count
   abbrev pub told_by : ℕ → Inode → ℕ → Answer
   told_by count inode parent =
-      answer_of 1 (readdirplus_from (min asked.names_count most_bytes) count (entry_told v set) (shown_inode v fileid inode None)
+      answer_of 1 (readdirplus_from (min asked.names_count most_bytes) count (entry_for caller v set inode) (shown_inode v fileid inode None)
       (above_cookie asked.cookie.0 (all_under set.own fileid parent)))
 
   abbrev pub listed_in : Inode → ℕ → Answer
@@ -139,3 +140,13 @@ module _ (v fileid : ℕ) (asked : PagePlusAsked) (set : LogicalSet) where
     pub good-cookie : is_bad_cookie asked.cookie.0 asked.verifier.0 ≡ false → (n : ℕ) → n ≡ min asked.count most_bytes
         → answer ≡ told_by n inode parent
     good-cookie good n is = checked false good ∙ ap (λ (m : ℕ). told_by m inode parent) (sym is)
+
+    -- by whether names alone are told
+    pub good-page : is_bad_cookie asked.cookie.0 asked.verifier.0 ≡ false → (n : ℕ) → n ≡ min asked.count most_bytes
+        → (is_bare : Bool) → is_bare ≡ (caller.checked && not (may_search caller.credential (protected DirectoryKind inode.attributes)))
+        → answer ≡ answer_of 1 (readdirplus_from (min asked.names_count most_bytes) n (entry_if is_bare v set) (shown_inode v fileid inode None)
+        (above_cookie asked.cookie.0 (all_under set.own fileid parent)))
+    good-page good n is is_bare bare =
+        good-cookie good n is
+        ∙ ap (λ (b : Bool). answer_of 1 (readdirplus_from (min asked.names_count most_bytes) n (entry_if b v set) (shown_inode v fileid inode None)
+        (above_cookie asked.cookie.0 (all_under set.own fileid parent)))) (sym bare)

@@ -5,6 +5,7 @@ use Rattle.std.proofs.lemmas.Bool.{cases_eq, cases_lt}
 use Rattle.std.specs.Prelude.{slice_get, slice_set, slice_index_or, OnOk, OnErr, if◌then◌else◌}
 use Rattle.std.specs.FinMap.{FinMap, get, insert, remove}
 use Rattle.std.specs.Ordering.{nat_cmp}
+use Rattle.nfs_model.specs.Types.{Ownership}
 use Rattle.nfs_model.specs.volume.Inodes.{InodeKind, RegularFile, DirectoryKind}
 use Rattle.nfs_model.specs.volume.Stripes.{StripeValue, OfFile, OfDirectory, touch_of, card_dropped}
 use Rattle.nfs_model.specs.volume.lemmas.Numbered.{same-answers, get-insert_at, get-remove_at}
@@ -23,14 +24,14 @@ remove-put m k x = same-answers (remove (insert m k x) k) (remove m k) (λ q.
     by true o = refl
     by false o = refl
 
-module _ (f : ℕ) (s : StripeValue) where
-  made-else : (k : InodeKind) → card_dropped f (card_made k f s) ≡ card_dropped f s
+module _ (f : ℕ) (owner : Ownership) (s : StripeValue) where
+  made-else : (k : InodeKind) → card_dropped f (card_made owner k f s) ≡ card_dropped f s
   made-else (RegularFile size filled verifier) =
-      ap (λ cards. record s { cards = cards }) (remove-put s.cards f (OfFile size (touch_of (get s.cards f))))
+      ap (λ cards. record s { cards = cards }) (remove-put s.cards f (OfFile size (touch_of (get s.cards f)) owner))
   made-else (DirectoryKind parent subdirectories) = ap (λ cards. record s { cards = cards }) (remove-put s.cards f OfDirectory)
 
   -- by what came of it
-  pub put-else : {A E : Type 0} (k : InodeKind) (new : StripeValue) (r : Result A E) → OnOk r (new ≡ card_made k f s) → OnErr r (new ≡ s)
+  pub put-else : {A E : Type 0} (k : InodeKind) (new : StripeValue) (r : Result A E) → OnOk r (new ≡ card_made owner k f s) → OnErr r (new ≡ s)
       → card_dropped f new ≡ card_dropped f s
   put-else k new (Ok x) ok err = ap (card_dropped f) ok ∙ made-else k
   put-else k new (Err e) ok err = ap (card_dropped f) err

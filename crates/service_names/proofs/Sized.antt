@@ -5,13 +5,15 @@ use Rattle.std.proofs.lemmas.Bool.{cases_eq}
 use Rattle.std.specs.Prelude.{length, map, is_some, IsSome, slice_get, slice_set, slice_index_or}
 use Rattle.std.specs.FinMap.{get}
 use Rattle.parcels.specs.Filled.{is_filled, AreFilledAlike}
+use Rattle.nfs_model.specs.Types.{Ownership}
 use Rattle.nfs_model.specs.volume.Logical.{LogicalValue}
 use Rattle.nfs_model.specs.volume.Stripes.{StripeValue, numbers_freed}
 use Rattle.filer_state.specs.state.Contents.{each}
 use Rattle.filer_state.specs.state.Parcels.{no_stripe}
 use Rattle.filer_state.specs.state.Sets.{FilerStripe, FilerLogical, stripe_value, placed, in_one, logical_before}
 use Rattle.filer_state.specs.laws.lemmas.Each.{each-same, each-map, each-index}
-use Rattle.filer_state.specs.changes.NodesSized.{stripe_sized, all_freed}
+use Rattle.filer_state.specs.changes.NodesSized.{all_freed}
+use Rattle.service_names.specs.Shaping.{stripe_shaped}
 use Rattle.service_names.specs.Changing.{AreNumbers, MayBeSet, with_dead}
 use Rattle.service_names.proofs.Freed.{marked-none, marked-before, numbers-parted}
 use Rattle.service_names.proofs.Taking.{set-here, set-else, found-here, filled-as}
@@ -28,7 +30,7 @@ module _ (blocks fileid size : ℕ) where
       (numbers-parted blocks (numbers_freed fileid size (f from)) (all_freed fileid size (each f (from + 1) n)) are).1)
       (cases_eq i from)
 
-module _ {P : Type 0} (fileid size n : ℕ) (old : List (Option (FilerStripe P))) (own : LogicalValue) (filled : ℕ) where
+module _ {P : Type 0} (fileid size : ℕ) (owner : Option Ownership) (n : ℕ) (old : List (Option (FilerStripe P))) (own : LogicalValue) (filled : ℕ) where
   abbrev was : ℕ → StripeValue
   was i = stripe_value (placed old i)
 
@@ -40,7 +42,7 @@ module _ {P : Type 0} (fileid size n : ℕ) (old : List (Option (FilerStripe P))
   pub record AreSizedFrom (left : ℕ) (now : List (Option (FilerStripe P))) (own_now : LogicalValue) (rest : ℕ) : Type 0 where
     pub alike : AreFilledAlike old now
     pub before : (i : ℕ) → i < left → stripe_value (placed now i) ≡ was i
-    pub sized : (i : ℕ) → left ≤ i → i < n → stripe_value (placed now i) ≡ stripe_sized fileid size (was i)
+    pub sized : (i : ℕ) → left ≤ i → i < n → stripe_value (placed now i) ≡ stripe_shaped fileid size owner (was i)
     pub dead : (m : ℕ) → left + m ≡ n → own_now ≡ with_dead (freed_from left m) own
     pub stays : (m : ℕ) → left + m ≡ n → rest ≡ filled - length (freed_from left m)
 
@@ -66,7 +68,7 @@ module _ {P : Type 0} (fileid size n : ℕ) (old : List (Option (FilerStripe P))
       → i < n → i < length now → slice_get now i ≡ Some was_here
       → next ≡ rest - length (numbers_freed fileid size (stripe_value was_here))
       → own_next ≡ with_dead (numbers_freed fileid size (stripe_value was_here)) own_now
-      → stripe_value here ≡ stripe_sized fileid size (stripe_value was_here)
+      → stripe_value here ≡ stripe_shaped fileid size owner (stripe_value was_here)
       → is_some here ≡ is_some was_here → AreSizedFrom (i + 1) now own_now rest → AreSizedFrom i (slice_set now i here) own_next next
   more-sized i now own_now own_next rest next was_here here less long found next_is own_is sized_is same t =
       let value : stripe_value was_here ≡ was i = ap (λ o. stripe_value (in_one o)) (sym found) ∙ t.before i (omega arith) in
@@ -83,7 +85,7 @@ module _ {P : Type 0} (fileid size n : ℕ) (old : List (Option (FilerStripe P))
         sized = λ k on below. ⊎_elim
             (λ (e : k ≡ i). ap (λ (m : ℕ). stripe_value (placed (slice_set now i here) m)) e
             ∙ ap (λ o. stripe_value (in_one o)) (set-here now i here long)
-            ∙ sized_is ∙ ap (stripe_sized fileid size) value ∙ ap (λ (m : ℕ). stripe_sized fileid size (was m)) (sym e))
+            ∙ sized_is ∙ ap (stripe_shaped fileid size owner) value ∙ ap (λ (m : ℕ). stripe_shaped fileid size owner (was m)) (sym e))
             (λ (ne : k ≢ i). else_same k ne ∙ t.sized k (omega (arith, ne)) below)
             (cases_eq k i);
         dead = dead value;
@@ -111,7 +113,7 @@ module _ {P : Type 0} (fileid size n : ℕ) (old : List (Option (FilerStripe P))
       → left ≤ n → n ≤ length now → slice_index_or now (left - 1) d ≡ was_here
       → next ≡ rest - length (numbers_freed fileid size (stripe_value was_here))
       → own_next ≡ with_dead (numbers_freed fileid size (stripe_value was_here)) own_now
-      → stripe_value here ≡ stripe_sized fileid size (stripe_value was_here)
+      → stripe_value here ≡ stripe_shaped fileid size owner (stripe_value was_here)
       → is_some here ≡ is_some was_here → AreSizedFrom left now own_now rest
       → AreSizedFrom (left - 1) (slice_set now (left - 1) here) own_next next
   place-sized zero now own_now own_next rest next d was_here here some below long is next_is own_is sized_is same t = absurd (omega arith)
@@ -143,13 +145,13 @@ module _ {P : Type 0} (fileid size n : ℕ) (old : List (Option (FilerStripe P))
   pub all-sized : (left : ℕ) (now : List (Option (FilerStripe P))) (own_now : LogicalValue) (rest : ℕ) → left ≤ 0 → AreSizedFrom left now own_now rest
       → (rest ≡ filled - length (all_freed fileid size (each was 0 n)))
       × (own_now ≡ with_dead (all_freed fileid size (each was 0 n)) own)
-      × (each (λ i. stripe_value (placed now i)) 0 n ≡ map (stripe_sized fileid size) (each was 0 n))
+      × (each (λ i. stripe_value (placed now i)) 0 n ≡ map (stripe_shaped fileid size owner) (each was 0 n))
       × AreFilledAlike old now
   all-sized zero now own_now rest none t = (
     t.stays n (omega arith),
     t.dead n (omega arith),
-    each-same (λ i. stripe_value (placed now i)) (λ i. stripe_sized fileid size (was i)) 0 n (λ i low high. t.sized i low (omega arith))
-        ∙ sym (each-map (stripe_sized fileid size) was 0 n),
+    each-same (λ i. stripe_value (placed now i)) (λ i. stripe_shaped fileid size owner (was i)) 0 n (λ i low high. t.sized i low (omega arith))
+        ∙ sym (each-map (stripe_shaped fileid size owner) was 0 n),
     t.alike,
   )
   all-sized (suc left) now own_now rest none t = absurd (omega arith)

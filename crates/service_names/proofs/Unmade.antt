@@ -6,6 +6,8 @@ use Rattle.std.specs.Prelude.{is_some, IsSome, slice_get}
 use Rattle.std.specs.Ordering.{nat_cmp}
 use Rattle.std.specs.FinMap.{get, get-empty}
 use Rattle.parcels.specs.Filled.{is_filled, AreFilledAlike}
+use Rattle.nfs_model.specs.Types.{Ownership}
+use Rattle.nfs_model.specs.Serial.Rights.{ownership_of}
 use Rattle.nfs_model.specs.volume.Directories.{DirectoryValue, added}
 use Rattle.nfs_model.specs.volume.Inodes.{InodeKind, Inode, inode_of, inode_created, inode_unmade, inode_set}
 use Rattle.nfs_model.specs.volume.Logical.{LogicalValue}
@@ -66,19 +68,19 @@ module _ {P : Type 0} where
         (cases_lt i n))
 
   -- the stripes of a volume with the card of a new node
-  cards-made : (k : InodeKind) (f n : ℕ) (old now : List (Option (FilerStripe P)))
+  cards-made : (owner : Ownership) (k : InodeKind) (f n : ℕ) (old now : List (Option (FilerStripe P)))
       → ((i : ℕ) → i < n → (x : Option (FilerStripe P)) × (slice_get old i ≡ Some x) × (is_some x ≡ true))
-      → InFirst (HasCard k f) n old now
-      → each (λ i. stripe_value (placed now i)) 0 n ≡ map (card_made k f) (each (λ i. stripe_value (placed old i)) 0 n)
-  cards-made k f n old now some t =
-      each-same (λ i. stripe_value (placed now i)) (λ i. card_made k f (stripe_value (placed old i))) 0 n (λ i on less.
+      → InFirst (HasCard owner k f) n old now
+      → each (λ i. stripe_value (placed now i)) 0 n ≡ map (card_made owner k f) (each (λ i. stripe_value (placed old i)) 0 n)
+  cards-made owner k f n old now some t =
+      each-same (λ i. stripe_value (placed now i)) (λ i. card_made owner k f (stripe_value (placed old i))) 0 n (λ i on less.
       let long = t.long in
       let x = some i (omega arith) in
       let within = get-there old i x.0 x.1 in
       let y = there now i (omega arith) in
       ap (λ o. stripe_value (in_one o)) y.1 ∙ t.first i x.0 y.0 (omega arith) x.1 y.1 x.2
-      ∙ sym (ap (λ o. card_made k f (stripe_value (in_one o))) x.1))
-      ∙ sym (each-map (card_made k f) (λ i. stripe_value (placed old i)) 0 n)
+      ∙ sym (ap (λ o. card_made owner k f (stripe_value (in_one o))) x.1))
+      ∙ sym (each-map (card_made owner k f) (λ i. stripe_value (placed old i)) 0 n)
 
 -- ---- a node
 
@@ -166,11 +168,12 @@ module _ {P : Type 0} (parent : Parent) (name : List ℕ) (old : FilerLogical P)
 
       pub all-made : (title : List ℕ) → title ≡ name
           → two.own ≡ with_directories (changed_at (added title f) d (directories_made made.kind f one.own.directories)) one.own
-          → InFirst (HasCard made.kind f) one.own.stripes one.stripes.at two.stripes.at
+          → (owner : Ownership) → owner ≡ ownership_of made.attributes
+          → InFirst (HasCard owner made.kind f) one.own.stripes one.stripes.at two.stripes.at
           → three.own ≡ with_inodes (inode_set d (inode_dated (naming_in_parent parent name (logical_before old)).inode made.kind
           (naming_in_parent parent name (logical_before old)).moment) two.own.inodes) two.own
           → logical_after old three ≡ node_made (making_of (naming_in_parent parent name (logical_before old)) made) (logical_before old)
-      all-made title titled tied cards set = λ j. record { own = own j; stripes = placed_now j }
+      all-made title titled tied owner owns cards set = λ j. record { own = own j; stripes = placed_now j }
         where
           dated : Inode
           dated = inode_dated (naming_in_parent parent name (logical_before old)).inode made.kind (naming_in_parent parent name (logical_before old)).moment
@@ -194,12 +197,14 @@ module _ {P : Type 0} (parent : Parent) (name : List ℕ) (old : FilerLogical P)
               ∙ ap (λ (q : ℕ). with_inodes (inode_set d dated (inode_created made old.own.inodes))
               (with_directories (changed_value (added name q) (Some entries) d (directories_made made.kind q old.own.directories)) old.own)) is
 
-          has : InFirst (HasCard made.kind f) n old.stripes.at two.stripes.at
-          has = subst (λ (m : ℕ). InFirst (HasCard made.kind f) m old.stripes.at two.stripes.at) (ap (λ (l : LogicalValue). l.stripes) created)
-              (subst (λ xs. InFirst (HasCard made.kind f) one.own.stripes xs two.stripes.at) (ap (λ s. s.at) same) cards)
+          has : InFirst (HasCard owner made.kind f) n old.stripes.at two.stripes.at
+          has = subst (λ (m : ℕ). InFirst (HasCard owner made.kind f) m old.stripes.at two.stripes.at) (ap (λ (l : LogicalValue). l.stripes) created)
+              (subst (λ xs. InFirst (HasCard owner made.kind f) one.own.stripes xs two.stripes.at) (ap (λ s. s.at) same) cards)
 
-          placed_now : (logical_after old three).stripes ≡ map (card_made made.kind old.own.inodes.next) (logical_before old).stripes
+          placed_now : (logical_after old three).stripes ≡ map (card_made (ownership_of made.attributes) made.kind old.own.inodes.next)
+              (logical_before old).stripes
           placed_now =
               ap (λ s. each (λ i. stripe_value (placed s.at i)) 0 n) stripes
-              ∙ cards-made made.kind f n old.stripes.at two.stripes.at place-filled has
-              ∙ ap (λ (q : ℕ). map (card_made made.kind q) (each was 0 n)) is
+              ∙ cards-made owner made.kind f n old.stripes.at two.stripes.at place-filled has
+              ∙ ap (λ (o : Ownership). map (card_made o made.kind f) (each was 0 n)) owns
+              ∙ ap (λ (q : ℕ). map (card_made (ownership_of made.attributes) made.kind q) (each was 0 n)) is

@@ -1,5 +1,6 @@
 -- Cards in the places of a volume's stripes, as a call that makes a node puts them, or takes them out again.
 use Rattle.std.specs.Prelude.{◌≡◌, ℕ, ◌<◌, ◌≤◌, true, List, length, Option, Some, None, is_some, slice_get}
+use Rattle.nfs_model.specs.Types.{Ownership}
 use Rattle.nfs_model.specs.volume.Inodes.{InodeKind}
 use Rattle.nfs_model.specs.volume.Stripes.{card_dropped}
 use Rattle.filer_state.specs.state.Sets.{FilerStripe, stripe_value}
@@ -22,8 +23,8 @@ module _ {P : Type 0} where
   DiffersByCard fileid old new = place_dropped fileid new ≡ place_dropped fileid old
 
   -- a stripe that is there has the card of a new node
-  abbrev pub HasCard : InodeKind → ℕ → Option (FilerStripe P) → Option (FilerStripe P) → Type 0
-  HasCard kind fileid old new = is_some old ≡ true → stripe_value new ≡ card_made kind fileid (stripe_value old)
+  abbrev pub HasCard : Ownership → InodeKind → ℕ → Option (FilerStripe P) → Option (FilerStripe P) → Type 0
+  HasCard owner kind fileid old new = is_some old ≡ true → stripe_value new ≡ card_made owner kind fileid (stripe_value old)
 
   abbrev pub IsDropped : ℕ → Option (FilerStripe P) → Option (FilerStripe P) → Type 0
   IsDropped fileid old new = new ≡ place_dropped fileid old

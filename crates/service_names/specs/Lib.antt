@@ -1,11 +1,11 @@
 pub mod Shown
-pub mod Access
 pub mod Listing
 pub mod Promises
 pub mod Changing
 pub mod Naming
 pub mod Cards
 pub mod Making
+pub mod Refusing
 pub mod lemmas
 pub use Rattle.filer_state.specs.changes.Named as NamedChanges
 pub use Rattle.filer_state.specs.changes.Dropping as DroppingChanges
@@ -19,3 +19,4 @@ pub use Rattle.filer_state.specs.changes.NodesMade
 pub use Rattle.filer_state.specs.changes.NodesDropped
 pub use Rattle.filer_state.specs.changes.NodesMoved
 pub use Rattle.filer_state.specs.changes.NodesSized
+pub mod Shaping

@@ -1,12 +1,13 @@
 -- Pages of a directory with `.` and `..` (RFC 1813 sections 3.3.16 and 3.3.17).
-use Rattle.std.specs.Prelude.{ℕ, Bool, not, ◌&&◌, ◌==◌, List, ◌∷◌, length, map}
+use Rattle.std.specs.Prelude.{ℕ, Bool, not, ◌&&◌, ◌==◌, List, ◌∷◌, length, map, if◌then◌else◌}
 use Rattle.nfs_model.specs.Types.{Listed, ListedPlus}
 use Rattle.nfs_model.specs.Names.{dot, dot_dot}
 use Rattle.nfs_model.specs.Serial.Readdir.{fitting}
-use Rattle.nfs_model.specs.Serial.Readdirplus.{fitting_plus}
+use Rattle.nfs_model.specs.Serial.Readdirplus.{fitting_plus, listed_bare}
 use Rattle.nfs_model.specs.volume.Directories.{Page}
 use Rattle.nfs_model.specs.volume.Logical.{LogicalValue}
-use Rattle.filer_state.specs.changes.NameAnswers.{entries_of}
+use Rattle.filer_state.specs.state.Lenses.{LogicalSet}
+use Rattle.filer_state.specs.changes.NameAnswers.{entries_of, entry_told}
 use Rattle.nfs_values.specs.Answer.{entry_plus_of}
 use Rattle.service_names.specs.declared.listing_plus.PagePlus.{PagePlus}
 
@@ -28,6 +29,10 @@ abbrev pub tells_nothing : Page → Bool
 tells_nothing p = (length p.entries == 0) && not p.is_last
 
 -- ---- with attributes and handles
+
+-- what is told of an entry: its name alone, or its node too
+abbrev pub entry_if : Bool → ℕ → LogicalSet → Listed → ListedPlus
+entry_if is_bare v s e = if is_bare then listed_bare e else entry_told v s e
 
 -- a page with them
 pub record PageWithNodes : Type 0 where

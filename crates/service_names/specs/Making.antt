@@ -2,8 +2,11 @@
 use Rattle.std.specs.Prelude.{◌≡◌, ℕ, ◌<◌, ◌≤◌, ◌^◌, ◌==◌, false, List, Some, None, IsSome, IfSome}
 use Rattle.std.specs.FinMap.{get, len, remove}
 use Rattle.nfs_model.specs.Types.{Moment, Shown, Wcc, Answer, MadeDone}
+use Rattle.nfs_model.specs.Serial.Create.{Maker}
+use Rattle.nfs_values.specs.Caller.{caller_of}
 use Rattle.nfs_values.specs.Moment.{moment_of}
-use Rattle.inodes.specs.Inode.{inode_value}
+use Rattle.nfs_values.specs.declared.caller.Caller.{Caller}
+use Rattle.inodes.specs.Inode.{attributes_value, inode_value}
 use Rattle.nfs_model.specs.volume.Directories.{found}
 use Rattle.nfs_model.specs.volume.Inodes.{InodeKind, Inode, IsInodes, inode_unmade, inodes_of_a_volume}
 use Rattle.nfs_model.specs.volume.Logical.{LogicalValue}
@@ -18,6 +21,10 @@ use Rattle.service_names.specs.declared.parent.Parent.{Parent}
 -- a name in the directory of a call
 abbrev pub naming_in_parent : Parent → List ℕ → LogicalSet → HeldNaming
 naming_in_parent w name s = naming_in w.volume.0 w.fileid.0 (inode_value w.inode) name (moment_of w.moment) s
+
+-- who makes a node in the directory of a call
+abbrev pub maker_in_parent : Caller → Parent → Maker
+maker_in_parent caller w = record { caller = caller_of caller; directory = attributes_value w.inode.attributes }
 
 -- without the directory of a fileid
 abbrev pub without_directory : ℕ → LogicalValue → LogicalValue

@@ -1,7 +1,7 @@
 -- What the calls on names promise, on the parcels of a volume.
 use Rattle.std.specs.Prelude.{ℕ, false, Result, Ok, Err, List, [], Option}
 use Rattle.nfs_model.specs.Types as types
-use Rattle.nfs_model.specs.Types.{Moment, Credential, Success}
+use Rattle.nfs_model.specs.Types.{Moment, Caller, Success}
 use Rattle.nfs_model.specs.Tree.{Logical}
 use Rattle.nfs_values.specs.Answer.{answer_of}
 use Rattle.nfs_values.specs.declared.answer.Answer.{Answer}
@@ -47,9 +47,9 @@ Commits v fileid set result = (handle : List ℕ)
     (Replied (Success (answer_of (Commit result)))) set
 
 -- An entry of ACCESS of a fileid, of these bits for a caller, likewise (RFC 1813 section 3.3.4).
-abbrev pub ChecksAccess : ℕ → ℕ → ℕ → Credential → LogicalSet → Result AccessResults Status → Type 0
-ChecksAccess v fileid asked who set result = (handle : List ℕ)
-    → RightOnVolume v logical_lens (ServesOn (access_call handle (Logical v) fileid asked who) false) [] [] set
+abbrev pub ChecksAccess : ℕ → ℕ → ℕ → Caller → LogicalSet → Result AccessResults Status → Type 0
+ChecksAccess v fileid asked caller set result = (handle : List ℕ)
+    → RightOnVolume v logical_lens (ServesOn (access_call handle (Logical v) fileid asked caller) false) [] [] set
     (Replied (Success (answer_of (CheckAccess result)))) set
 
 -- An entry of FSINFO of a fileid, likewise (RFC 1813 section 3.3.19).
@@ -59,15 +59,15 @@ TellsInfo v fileid set result = (handle : List ℕ)
     (Replied (Success (answer_of (FilesystemInfo result)))) set
 
 -- An entry of PATHCONF of a fileid, likewise (RFC 1813 section 3.3.20).
-abbrev pub TellsPath : ℕ → ℕ → LogicalSet → Result PathConfigurationResults Status → Type 0
-TellsPath v fileid set result = (handle : List ℕ)
-    → RightOnVolume v logical_lens (ServesOn (pathconf_call handle (Logical v) fileid) false) [] [] set
+abbrev pub TellsPath : ℕ → ℕ → Caller → LogicalSet → Result PathConfigurationResults Status → Type 0
+TellsPath v fileid caller set result = (handle : List ℕ)
+    → RightOnVolume v logical_lens (ServesOn (pathconf_call handle (Logical v) fileid caller) false) [] [] set
     (Replied (Success (answer_of (PathConfiguration result)))) set
 
 -- An entry of MNT of a path below a root, likewise (RFC 1813 appendix I, section 5.2.1).
-abbrev pub MountsBelow : ℕ → ℕ → List ℕ → LogicalSet → Result MountResults Status → Type 0
-MountsBelow v fileid path set result = (root : List ℕ)
-    → RightOnVolume v logical_lens (ServesOn (mount_call root (Logical v) fileid path) false) [] [] set
+abbrev pub MountsBelow : ℕ → ℕ → List ℕ → Caller → LogicalSet → Result MountResults Status → Type 0
+MountsBelow v fileid path caller set result = (root : List ℕ)
+    → RightOnVolume v logical_lens (ServesOn (mount_call root (Logical v) fileid path caller) false) [] [] set
     (Replied (Success (answer_of (Mount result)))) set
 
 -- what a READDIR comes to: a reply, or memory ran out
@@ -86,17 +86,18 @@ listing_plus_outcome (Ok told) = works.Replied (Success (answer_of (ReadDirector
 listing_plus_outcome (Err e) = Starved
 
 -- A run of READDIRPLUS of a page of the directory of a fileid, likewise (RFC 1813 section 3.3.17).
-abbrev pub ListsPlus : ℕ → ℕ → PagePlusAsked → LogicalSet → Result (Result ReadDirectoryPlusResults Status) AllocError → Type 0
-ListsPlus v fileid asked set result = (handle : List ℕ)
+abbrev pub ListsPlus : ℕ → ℕ → PagePlusAsked → Caller → LogicalSet → Result (Result ReadDirectoryPlusResults Status) AllocError → Type 0
+ListsPlus v fileid asked caller set result = (handle : List ℕ)
     → RunsOn v logical_lens
-    (readdirplus_call handle (Logical v) fileid asked.cookie.0 asked.verifier.0 asked.names_count asked.count) set (listing_plus_outcome result) set
+    (readdirplus_call handle (Logical v) fileid asked.cookie.0 asked.verifier.0 asked.names_count asked.count caller) set (listing_plus_outcome result) set
 
 -- ---- calls that change the volume
 
 -- An entry of SETATTR of a fileid, which leaves this, likewise (RFC 1813 section 3.3.2).
-abbrev pub SetsAttributes : ℕ → ℕ → types.SetAttributes → Option Moment → Moment → LogicalSet → Result Change Status → LogicalSet → Type 0
-SetsAttributes v fileid set guard moment old result new = (handle : List ℕ)
-    → RightOnVolume v logical_lens (ServesOn (setattr_call handle (Logical v) fileid set guard moment) false) [] [] old
+abbrev pub SetsAttributes : ℕ → ℕ → types.SetAttributes → Option Moment → Caller → Moment → LogicalSet → Result Change Status
+    → LogicalSet → Type 0
+SetsAttributes v fileid set guard caller moment old result new = (handle : List ℕ)
+    → RightOnVolume v logical_lens (ServesOn (setattr_call handle (Logical v) fileid set guard caller moment) false) [] [] old
     (Replied (Success (answer_of (answers.SetAttributes result)))) new
 
 -- what a call that makes a node comes to: a reply, or memory ran out
@@ -105,16 +106,16 @@ making_outcome answer (Ok told) = works.Replied (Success (answer_of (answer told
 making_outcome answer (Err e) = Starved
 
 -- A run of CREATE of a name in the directory of a fileid, likewise (RFC 1813 section 3.3.8).
-abbrev pub Creates : ℕ → ℕ → List ℕ → types.CreateMode → Credential → Moment → LogicalSet → Result (Result MakeResults Status) AllocError
+abbrev pub Creates : ℕ → ℕ → List ℕ → types.CreateMode → Caller → Moment → LogicalSet → Result (Result MakeResults Status) AllocError
     → LogicalSet → Type 0
-Creates v fileid name mode credential moment old result new = (handle : List ℕ)
-    → RunsOn v logical_lens (create_call handle (Logical v) fileid name mode credential moment) old (making_outcome answers.Create result) new
+Creates v fileid name mode caller moment old result new = (handle : List ℕ)
+    → RunsOn v logical_lens (create_call handle (Logical v) fileid name mode caller moment) old (making_outcome answers.Create result) new
 
 -- A run of MKDIR, likewise (RFC 1813 section 3.3.9).
-abbrev pub MakesDirectory : ℕ → ℕ → List ℕ → types.SetAttributes → Credential → Moment → LogicalSet → Result (Result MakeResults Status) AllocError
+abbrev pub MakesDirectory : ℕ → ℕ → List ℕ → types.SetAttributes → Caller → Moment → LogicalSet → Result (Result MakeResults Status) AllocError
     → LogicalSet → Type 0
-MakesDirectory v fileid name set credential moment old result new = (handle : List ℕ)
-    → RunsOn v logical_lens (mkdir_call handle (Logical v) fileid name set credential moment) old (making_outcome answers.MakeDirectory result) new
+MakesDirectory v fileid name set caller moment old result new = (handle : List ℕ)
+    → RunsOn v logical_lens (mkdir_call handle (Logical v) fileid name set caller moment) old (making_outcome answers.MakeDirectory result) new
 
 -- An entry of REMOVE, likewise (RFC 1813 section 3.3.12).
 abbrev pub Removes : ℕ → ℕ → List ℕ → Moment → LogicalSet → Result Change Status → LogicalSet → Type 0

@@ -147,17 +147,17 @@ fn mtime_sized(size: Option<u64>, moment: Moment, old: Moment) -> Moment
 }
 
 /// The low 12 bits of a mode that is given, or the old one.
-fn given_mode(mode: Option<u32>, old: u32) -> u32
+pub(crate) fn given_mode(mode: Option<u32>, old: u16) -> u16
     ensures { result ≡ given_mode mode old }
 {
     match mode {
-        Some(mode) => mode % 4_096,
+        Some(mode) => (mode % 4_096) as u16,
         None => old,
     }
 }
 
 /// A time as a call says, at a moment, from an old one.
-fn time_after(time: SetTime, moment: Moment, old: Moment) -> Moment
+pub(crate) fn time_after(time: SetTime, moment: Moment, old: Moment) -> Moment
     ensures { moment_of result
         ≡ time_after (time_of time) (moment_of moment) (moment_of old) }
 {

@@ -2,7 +2,7 @@
 
 ghost use Rattle.std.specs.Prelude.{◌≡◌, [], IfOk, None, OnErr, OnOk};
 ghost use Rattle.nfs_values.specs.Answer.{answer_of};
-ghost use Rattle.nfs_values.specs.Credential.{credential_of};
+ghost use Rattle.nfs_values.specs.Caller.{caller_of};
 ghost use Rattle.nfs_values.specs.Moment.{moment_of};
 ghost use Rattle.nfs_values.specs.Set.{mode_of, set_of};
 ghost use Rattle.nfs_values.specs.declared.answer.Answer.TheVariants as answers;
@@ -23,7 +23,7 @@ use crate::parent::Parent;
 use filer_state::Files;
 use filer_state::changes::making_calls_are_right;
 use nfs_values::answer::MakeResults;
-use nfs_values::{CreateMode, Credential, Fileid, Moment, SetAttributes, Status, VolumeNumber};
+use nfs_values::{Caller, CreateMode, Fileid, Moment, SetAttributes, Status, VolumeNumber};
 use parcels::LogicalHeld;
 use std::alloc::{AllocError, Global};
 
@@ -40,20 +40,18 @@ pub fn create(
     directory: Fileid,
     name: &[u8],
     mode: &CreateMode,
-    credential: Credential,
+    caller: &Caller,
     moment: Moment,
 ) -> Result<Result<MakeResults, Status>, AllocError>
     requires whole { HasVolume volume.0 logical_lens [] (logical_before held.old) }
     ensures right { Creates volume.0 directory.0 name.now (mode_of mode.now)
-        (credential_of credential) (moment_of moment)
+        (caller_of caller.now) (moment_of moment)
         (logical_before held.old) result (logical_after held.old held.new) }
     ensures starved { OnErr result (held.new ≡ held.old) }
     ensures alike { logical_alike held.old held.new }
 {
     making_calls_are_right();
-    file_created(
-        alloc, held, volume, directory, name, mode, credential, moment,
-    )
+    file_created(alloc, held, volume, directory, name, mode, caller, moment)
 }
 
 /// MKDIR (RFC 1813 section 3.3.9), likewise: STALE, NOTDIR, what is wrong with the name, EXIST
@@ -66,20 +64,18 @@ pub fn make_directory(
     directory: Fileid,
     name: &[u8],
     set: &SetAttributes,
-    credential: Credential,
+    caller: &Caller,
     moment: Moment,
 ) -> Result<Result<MakeResults, Status>, AllocError>
     requires whole { HasVolume volume.0 logical_lens [] (logical_before held.old) }
     ensures right { MakesDirectory volume.0 directory.0 name.now (set_of set.now)
-        (credential_of credential) (moment_of moment)
+        (caller_of caller.now) (moment_of moment)
         (logical_before held.old) result (logical_after held.old held.new) }
     ensures starved { OnErr result (held.new ≡ held.old) }
     ensures alike { logical_alike held.old held.new }
 {
     making_calls_are_right();
-    directory_made(
-        alloc, held, volume, directory, name, set, credential, moment,
-    )
+    directory_made(alloc, held, volume, directory, name, set, caller, moment)
 }
 
 /// What CREATE comes to.
@@ -90,18 +86,18 @@ fn file_created(
     directory: Fileid,
     name: &[u8],
     mode: &CreateMode,
-    credential: Credential,
+    caller: &Caller,
     moment: Moment,
 ) -> Result<Result<MakeResults, Status>, AllocError>
     requires whole { HasVolume volume.0 logical_lens [] (logical_before held.old) }
     ensures told { IfOk result (λ told. answer_of (answers.Create told)
         ≡ (create_done volume.0 directory.0 name.now (mode_of mode.now)
-        (credential_of credential) (moment_of moment) (logical_before held.old)).answer) }
+        (caller_of caller.now) (moment_of moment) (logical_before held.old)).answer) }
     ensures set { OnOk result (logical_after held.old held.new
         ≡ (create_done volume.0 directory.0 name.now (mode_of mode.now)
-        (credential_of credential) (moment_of moment) (logical_before held.old)).set) }
+        (caller_of caller.now) (moment_of moment) (logical_before held.old)).set) }
     ensures would { OnErr result (Makes (create_done volume.0 directory.0 name.now
-        (mode_of mode.now) (credential_of credential) (moment_of moment)
+        (mode_of mode.now) (caller_of caller.now) (moment_of moment)
         (logical_before held.old)).answer) }
     ensures absent { OnErr result
         (fileid_found (entries_of held.old.own directory.0) name.now ≡ None) }
@@ -122,8 +118,8 @@ fn file_created(
         moment,
     };
     match child_at(held, directory, name) {
-        Some(child) => Ok(create_existing(held, parent, child, mode)),
-        None => create_new(alloc, held, parent, name, mode, credential),
+        Some(child) => Ok(create_existing(held, parent, child, mode, caller)),
+        None => create_new(alloc, held, parent, name, mode, caller),
     }
 }
 
@@ -135,18 +131,18 @@ fn directory_made(
     directory: Fileid,
     name: &[u8],
     set: &SetAttributes,
-    credential: Credential,
+    caller: &Caller,
     moment: Moment,
 ) -> Result<Result<MakeResults, Status>, AllocError>
     requires whole { HasVolume volume.0 logical_lens [] (logical_before held.old) }
     ensures told { IfOk result (λ told. answer_of (answers.MakeDirectory told)
         ≡ (mkdir_done volume.0 directory.0 name.now (set_of set.now)
-        (credential_of credential) (moment_of moment) (logical_before held.old)).answer) }
+        (caller_of caller.now) (moment_of moment) (logical_before held.old)).answer) }
     ensures set { OnOk result (logical_after held.old held.new
         ≡ (mkdir_done volume.0 directory.0 name.now (set_of set.now)
-        (credential_of credential) (moment_of moment) (logical_before held.old)).set) }
+        (caller_of caller.now) (moment_of moment) (logical_before held.old)).set) }
     ensures would { OnErr result (Makes (mkdir_done volume.0 directory.0 name.now
-        (set_of set.now) (credential_of credential) (moment_of moment)
+        (set_of set.now) (caller_of caller.now) (moment_of moment)
         (logical_before held.old)).answer) }
     ensures starved { OnErr result (held.new ≡ held.old) }
     ensures alike { logical_alike held.old held.new }
@@ -166,6 +162,6 @@ fn directory_made(
     };
     match child_at(held, directory, name) {
         Some(_) => Ok(Err(Status::Exists)),
-        None => make_new(alloc, held, parent, name, set, credential),
+        None => make_new(alloc, held, parent, name, set, caller),
     }
 }

@@ -2,17 +2,21 @@
 
 ghost use Rattle.std.specs.Prelude.{◌≡◌, ◌-◌, length, is_some, map, IsSome};
 ghost use Rattle.std.specs.FinMap.{get};
+ghost use Rattle.std.specs.Option.{option_map};
 ghost use Rattle.parcels.specs.Filled.{logical_alike};
 ghost use Rattle.nfs_model.specs.volume.Ranges.{dead_marked};
-ghost use Rattle.nfs_model.specs.volume.Stripes.{cut, numbers_freed};
-ghost use Rattle.filer_state.specs.changes.NodesSized.{all_freed, stripe_sized};
+ghost use Rattle.nfs_model.specs.volume.Stripes.{cut, file_card_set, numbers_freed};
+ghost use Rattle.nfs_values.specs.Ownership.{ownership_of};
+ghost use Rattle.filer_state.specs.changes.NodesSized.{all_freed};
 ghost use Rattle.filer_state.specs.state.Sets.{logical_before, logical_after, stripe_value};
 ghost use Rattle.stripes.specs.Numbers.{numbers};
 ghost use Rattle.service_names.specs.Changing.{AreNumbers, MayBeSet, with_dead};
+ghost use Rattle.service_names.specs.Shaping.{stripe_shaped};
 
 use filer_state::{Files, LogicalParcel};
-use nfs_values::{BlockNumber, Fileid};
+use nfs_values::{BlockNumber, Fileid, Ownership};
 use parcels::{LogicalHeld, StripeHeld};
+use stripe_cards::CardKind;
 use stripes::{FreedBlocks, GiveBack, Stripe};
 use vbn_ranges::DeadBlocks;
 
@@ -20,12 +24,14 @@ use vbn_ranges::DeadBlocks;
 /// numbers come into use again: to give it back takes longer than all the rest of a cut.
 const MANY_BLOCKS: u32 = 1024;
 
-/// Sets a file to a size in the stripes of its volume, whose blocks past it are dead then. Of so
-/// many filled blocks it tells how many are left. It needs no memory.
+/// Sets a file to a size in the stripes of its volume; its blocks past it are dead then. Its cards
+/// show the size and an owner, where that is given, and else stay. Of so many filled blocks it
+/// tells how many are left. It needs no memory.
 pub(crate) fn size_stripes(
     held: &mut LogicalHeld<Files>,
     fileid: Fileid,
     size: u64,
+    owner: Option<Ownership>,
     filled: u32,
 ) -> u32
     requires { MayBeSet fileid.0 (logical_before held.old) }
@@ -34,7 +40,7 @@ pub(crate) fn size_stripes(
     ensures own { held.new.own ≡ with_dead
         (all_freed fileid.0 size (logical_before held.old).stripes) held.old.own }
     ensures sized { (logical_after held.old held.new).stripes
-        ≡ map (stripe_sized fileid.0 size) (logical_before held.old).stripes }
+        ≡ map (stripe_shaped fileid.0 size (option_map ownership_of owner)) (logical_before held.old).stripes }
     ensures alike { logical_alike held.old held.new }
 {
     let memory = if filled > MANY_BLOCKS {
@@ -52,6 +58,7 @@ pub(crate) fn size_stripes(
             &mut held.own,
             fileid,
             size,
+            owner,
             rest,
             memory,
             &mut freed,
@@ -66,6 +73,7 @@ fn size_place(
     own: &mut LogicalParcel,
     fileid: Fileid,
     size: u64,
+    owner: Option<Ownership>,
     filled: u32,
     memory: GiveBack,
     freed: &mut FreedBlocks,
@@ -78,7 +86,7 @@ fn size_place(
     ensures own { own.new
         ≡ with_dead (numbers_freed fileid.0 size (stripe_value place.old)) own.old }
     ensures sized { stripe_value place.new
-        ≡ stripe_sized fileid.0 size (stripe_value place.old) }
+        ≡ stripe_shaped fileid.0 size (option_map ownership_of owner) (stripe_value place.old) }
     ensures alike { is_some place.new ≡ is_some place.old }
 {
     match place {
@@ -89,6 +97,7 @@ fn size_place(
                 dead,
                 fileid,
                 size,
+                owner,
                 filled,
                 memory,
                 freed,
@@ -104,6 +113,7 @@ fn size_stripe(
     dead: &mut DeadBlocks,
     fileid: Fileid,
     size: u64,
+    owner: Option<Ownership>,
     filled: u32,
     memory: GiveBack,
     freed: &mut FreedBlocks,
@@ -113,12 +123,25 @@ fn size_stripe(
         (numbers_freed fileid.0 size stripe.old) }
     ensures left { result ≡ filled - length (numbers_freed fileid.0 size stripe.old) }
     ensures dead { dead.new ≡ dead_marked (numbers_freed fileid.0 size stripe.old) dead.old }
-    ensures sized { stripe.new ≡ stripe_sized fileid.0 size stripe.old }
+    ensures sized { stripe.new ≡ stripe_shaped fileid.0 size (option_map ownership_of owner) stripe.old }
 {
     stripe.take_touch(fileid);
     let left = cut_stripe(stripe, dead, fileid, size, filled, memory, freed);
-    stripe.set_size(fileid, size);
+    if let Some(owner) = owner {
+        put_there(stripe, fileid, size, owner);
+    }
     left
+}
+
+/// Sets the card of a file, which is there. It takes no memory.
+fn put_there(stripe: &mut Stripe, fileid: Fileid, size: u64, owner: Ownership)
+    requires { IsSome (get stripe.old.cards fileid.0) }
+    ensures { stripe.new ≡ file_card_set fileid.0 size (ownership_of owner) stripe.old }
+{
+    match stripe.set_card(fileid, CardKind::File { size, owner }) {
+        Ok(()) => {}
+        Err(_) => unreachable!(),
+    }
 }
 
 /// Marks blocks dead, and tells how many of this many are left. It takes no memory.

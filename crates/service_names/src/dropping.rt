@@ -25,7 +25,7 @@ ghost use Rattle.service_names.specs.Naming.{node_value, naming_of};
 use crate::cards::drop_cards;
 use crate::making::directories_in;
 use crate::node::Node;
-use crate::sizing::size_file;
+use crate::sizing::empty_file;
 use filer_state::{Files, LogicalParcel};
 use inodes::{Inode, InodeKind, StoredAttributes};
 use nfs_values::{Fileid, Moment};
@@ -52,7 +52,7 @@ pub(crate) fn drop_file(
         (node_value child)).set }
     ensures alike { logical_alike held.old held.new }
 {
-    let inode = size_file(held, child.fileid, child.inode, child.inode.attributes, 0);
+    let inode = empty_file(held, child.fileid, child.inode);
     let emptied = Node {
         fileid: child.fileid,
         inode,

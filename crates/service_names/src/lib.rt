@@ -5,6 +5,7 @@
 mod access;
 mod ahead;
 mod as_directory;
+mod asking;
 mod attributes;
 mod cards;
 mod child;
@@ -23,6 +24,8 @@ mod naming;
 mod new_inodes;
 mod node;
 mod parent;
+mod protection;
+pub mod refusing;
 pub mod removing;
 pub mod setting;
 mod showing;

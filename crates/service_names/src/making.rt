@@ -19,6 +19,7 @@ ghost use Rattle.std.specs.Prelude.{
 ghost use Rattle.std.specs.FinMap.{get, len};
 ghost use Rattle.nfs_values.specs.Answer.{node_made as made_told};
 ghost use Rattle.nfs_values.specs.Moment.{moment_of};
+ghost use Rattle.nfs_values.specs.Ownership.{ownership_of};
 ghost use Rattle.parcels.specs.Filled.{logical_alike};
 ghost use Rattle.inodes.specs.Inode.{inode_value, kind_value};
 ghost use Rattle.nfs_model.specs.volume.Directories.{added, found};
@@ -54,7 +55,7 @@ use directories::Directory;
 use filer_state::Files;
 use inodes::{Created, Inode, InodeKind, StoredAttributes};
 use nfs_values::answer::MakeResults;
-use nfs_values::{FileHandle, Fileid, Name, Named};
+use nfs_values::{FileHandle, Fileid, Name, Named, Ownership};
 use parcels::LogicalHeld;
 use std::alloc::{AllocError, Global};
 
@@ -111,7 +112,8 @@ fn make_node(
     let name = Name::copied(alloc, name)?;
     let created = create_inode(held, made)?;
     let fileid = created.fileid();
-    match tie(alloc, held, parent.fileid, name, fileid, made.kind) {
+    let owner = made.attributes.ownership();
+    match tie(alloc, held, parent.fileid, name, fileid, owner, made.kind) {
         Ok(()) => {
             set_directory(held, parent, made.kind);
             Ok(created.keep())
@@ -144,6 +146,7 @@ fn tie(
     directory: Fileid,
     name: Name,
     fileid: Fileid,
+    owner: Ownership,
     kind: InodeKind,
 ) -> Result<(), AllocError>
     requires few { held.old.own.stripes ≤ 16 }
@@ -154,7 +157,8 @@ fn tie(
     ensures own { OnOk result (held.new.own ≡ with_directories
         (changed_at (added name fileid.0) directory.0
         (directories_made (kind_value kind) fileid.0 held.old.own.directories)) held.old.own) }
-    ensures cards { OnOk result (InFirst (HasCard (kind_value kind) fileid.0)
+    ensures cards { OnOk result (InFirst
+        (HasCard (ownership_of owner) (kind_value kind) fileid.0)
         held.old.own.stripes held.old.stripes.at held.new.stripes.at) }
     ensures others { InFirst (DiffersByCard fileid.0) held.old.own.stripes
         held.old.stripes.at held.new.stripes.at }
@@ -162,7 +166,7 @@ fn tie(
         ≡ without_directory fileid.0 held.old.own) }
 {
     put_directory(alloc, held, fileid, kind)?;
-    put_cards(held, fileid, kind)?;
+    put_cards(held, fileid, owner, kind)?;
     add_entry(held, directory, name, fileid)
 }
 

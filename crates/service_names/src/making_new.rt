@@ -4,7 +4,7 @@ ghost use Rattle.std.specs.Prelude.{◌≡◌, false, None, IfOk, OnOk, OnErr};
 ghost use Rattle.std.specs.Option.{option_map};
 ghost use Rattle.nfs_values.specs.Answer.{answer_of};
 ghost use Rattle.nfs_values.specs.declared.answer.Answer.TheVariants.{Create, MakeDirectory};
-ghost use Rattle.nfs_values.specs.Credential.{credential_of};
+ghost use Rattle.nfs_values.specs.Caller.{caller_of};
 ghost use Rattle.nfs_values.specs.Set.{mode_of, set_of};
 ghost use Rattle.nfs_values.specs.Status.{status_of};
 ghost use Rattle.parcels.specs.Filled.{logical_alike};
@@ -24,7 +24,7 @@ use crate::new_inodes::{asked_attributes, file_inode, made_directory_inode};
 use crate::parent::Parent;
 use filer_state::Files;
 use nfs_values::answer::MakeResults;
-use nfs_values::{CreateMode, Credential, SetAttributes, Status};
+use nfs_values::{Caller, CreateMode, SetAttributes, Status};
 use parcels::LogicalHeld;
 use std::alloc::{AllocError, Global};
 
@@ -36,26 +36,26 @@ pub(crate) fn create_new(
     parent: Parent,
     name: &[u8],
     mode: &CreateMode,
-    credential: Credential,
+    caller: &Caller,
 ) -> Result<Result<MakeResults, Status>, AllocError>
     requires may { is_full_set (logical_before held.old) ≡ false
         → MayMake (naming_in_parent parent name.now (logical_before held.old)) }
     ensures told { IfOk result (λ told. answer_of (Create told)
         ≡ (create_by (naming_in_parent parent name.now (logical_before held.old)) (mode_of mode.now)
-        (credential_of credential) None).answer) }
+        (caller_of caller.now) None).answer) }
     ensures set { OnOk result (logical_after held.old held.new
         ≡ (create_by (naming_in_parent parent name.now (logical_before held.old)) (mode_of mode.now)
-        (credential_of credential) None).set) }
+        (caller_of caller.now) None).set) }
     ensures would { OnErr result (Makes (create_by
         (naming_in_parent parent name.now (logical_before held.old)) (mode_of mode.now)
-        (credential_of credential) None).answer) }
+        (caller_of caller.now) None).answer) }
     ensures alike { logical_alike held.old held.new }
     ensures err { OnErr result (held.new ≡ held.old) }
 {
     if let Some(fault) = create_fault(held, &asked_attributes(mode)) {
         return Ok(Err(fault));
     }
-    let made = file_inode(mode, credential, parent.moment);
+    let made = file_inode(mode, caller, &parent);
     let told = make_told(alloc, held, parent, name, made)?;
     Ok(Ok(told))
 }
@@ -68,26 +68,26 @@ pub(crate) fn make_new(
     parent: Parent,
     name: &[u8],
     set: &SetAttributes,
-    credential: Credential,
+    caller: &Caller,
 ) -> Result<Result<MakeResults, Status>, AllocError>
     requires may { is_full_set (logical_before held.old) ≡ false
         → MayMake (naming_in_parent parent name.now (logical_before held.old)) }
     ensures told { IfOk result (λ told. answer_of (MakeDirectory told)
         ≡ (mkdir_by (naming_in_parent parent name.now (logical_before held.old)) (set_of set.now)
-        (credential_of credential) None).answer) }
+        (caller_of caller.now) None).answer) }
     ensures set { OnOk result (logical_after held.old held.new
         ≡ (mkdir_by (naming_in_parent parent name.now (logical_before held.old)) (set_of set.now)
-        (credential_of credential) None).set) }
+        (caller_of caller.now) None).set) }
     ensures would { OnErr result (Makes (mkdir_by
         (naming_in_parent parent name.now (logical_before held.old)) (set_of set.now)
-        (credential_of credential) None).answer) }
+        (caller_of caller.now) None).answer) }
     ensures alike { logical_alike held.old held.new }
     ensures err { OnErr result (held.new ≡ held.old) }
 {
     if let Some(fault) = mkdir_fault(held, set) {
         return Ok(Err(fault));
     }
-    let made = made_directory_inode(parent.fileid, set, credential, parent.moment);
+    let made = made_directory_inode(set, caller, &parent);
     let told = make_told(alloc, held, parent, name, made)?;
     Ok(Ok(told))
 }

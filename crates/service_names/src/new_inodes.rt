@@ -1,42 +1,35 @@
 //! Inodes of new nodes.
 
-ghost use Rattle.std.specs.Prelude.{◌≡◌};
+ghost use Rattle.std.specs.Prelude.{◌≡◌, ◌<◌};
 ghost use Rattle.std.specs.Option.{option_map};
 ghost use Rattle.nfs_model.specs.Serial.Create.{asked_attributes, kept_verifier, new_attributes};
-ghost use Rattle.nfs_values.specs.Credential.{credential_of};
+ghost use Rattle.nfs_values.specs.Attributes.{kind_of};
 ghost use Rattle.nfs_values.specs.Moment.{moment_of};
 ghost use Rattle.nfs_values.specs.Set.{mode_of, set_of};
 ghost use Rattle.inodes.specs.Inode.{attributes_value, inode_value};
 ghost use Rattle.filer_state.specs.changes.Making.{file_inode, made_directory_inode};
+ghost use Rattle.service_names.specs.Making.{maker_in_parent};
 
-use crate::attributes::with_attributes;
+use crate::attributes::{given_mode, time_after};
+use crate::parent::Parent;
 use inodes::{Inode, InodeKind, StoredAttributes};
-use nfs_values::{CreateMode, Credential, Fileid, Moment, SetAttributes, SetTime, Verifier};
+use nfs_values::{Caller, CreateMode, FileKind, SetAttributes, Verifier};
+use rights::{Maker, NO_ATTRIBUTES};
 
 /// The mode of a new file where none is given (our profile).
-const FILE_MODE: u32 = 0o644;
+const FILE_MODE: u16 = 0o644;
 
 /// The mode of a new directory where none is given (our profile).
-const DIRECTORY_MODE: u32 = 0o755;
+const DIRECTORY_MODE: u16 = 0o755;
 
-/// Attributes that give nothing.
-const NO_ATTRIBUTES: SetAttributes = SetAttributes {
-    mode: None,
-    uid: None,
-    gid: None,
-    size: None,
-    atime: SetTime::Keep,
-    mtime: SetTime::Keep,
-};
-
-/// The inode of a file that a caller creates at a moment: its size is a hole.
-pub(crate) fn file_inode(mode: &CreateMode, credential: Credential, moment: Moment) -> Inode
-    ensures { inode_value result
-        ≡ file_inode (mode_of mode.now) (credential_of credential) (moment_of moment) }
+/// The inode of a file that a caller creates in a directory: its size is a hole.
+pub(crate) fn file_inode(mode: &CreateMode, caller: &Caller, parent: &Parent) -> Inode
+    ensures { inode_value result ≡ file_inode (mode_of mode.now)
+        (maker_in_parent caller.now parent.now) (moment_of parent.now.moment) }
 {
     let set = asked_attributes(mode);
     Inode {
-        attributes: new_attributes(&set, FILE_MODE, credential, moment),
+        attributes: new_attributes(&set, FileKind::Regular, FILE_MODE, caller, parent),
         kind: InodeKind::RegularFile {
             size: set.size.unwrap_or(0),
             filled: 0,
@@ -45,20 +38,15 @@ pub(crate) fn file_inode(mode: &CreateMode, credential: Credential, moment: Mome
     }
 }
 
-/// The inode of a directory that a caller makes in another at a moment.
-pub(crate) fn made_directory_inode(
-    parent: Fileid,
-    set: &SetAttributes,
-    credential: Credential,
-    moment: Moment,
-) -> Inode
-    ensures { inode_value result ≡ made_directory_inode parent.0 (set_of set.now)
-        (credential_of credential) (moment_of moment) }
+/// The inode of a directory that a caller makes in another.
+pub(crate) fn made_directory_inode(set: &SetAttributes, caller: &Caller, parent: &Parent) -> Inode
+    ensures { inode_value result ≡ made_directory_inode parent.now.fileid.0 (set_of set.now)
+        (maker_in_parent caller.now parent.now) (moment_of parent.now.moment) }
 {
     Inode {
-        attributes: new_attributes(set, DIRECTORY_MODE, credential, moment),
+        attributes: new_attributes(set, FileKind::Directory, DIRECTORY_MODE, caller, parent),
         kind: InodeKind::Directory {
-            parent,
+            parent: parent.fileid,
             subdirectories: 0,
         },
     }
@@ -86,23 +74,31 @@ fn kept_verifier(mode: &CreateMode) -> Option<Verifier>
     }
 }
 
-/// The attributes of a new node: those given, else a mode, the caller and the moment.
+/// The attributes of a new node: those given, as far as a checked caller may give them, else a
+/// mode, the caller, and the moment.
 fn new_attributes(
     set: &SetAttributes,
-    mode: u32,
-    credential: Credential,
-    moment: Moment,
+    kind: FileKind,
+    mode: u16,
+    caller: &Caller,
+    parent: &Parent,
 ) -> StoredAttributes
-    ensures { attributes_value result ≡ new_attributes (set_of set.now) mode
-        (credential_of credential) (moment_of moment) }
+    requires { mode < 4096 }
+    ensures { attributes_value result ≡ new_attributes (set_of set.now) (kind_of kind) mode
+        (maker_in_parent caller.now parent.now) (moment_of parent.now.moment) }
 {
-    let first = StoredAttributes {
-        mode,
-        uid: credential.uid,
-        gid: credential.gid,
-        atime: moment,
-        mtime: moment,
-        ctime: moment,
+    let maker = Maker {
+        caller,
+        directory: parent.inode.attributes.ownership(),
     };
-    with_attributes(first, set, moment)
+    let moment = parent.moment;
+    let gid = maker.gid(set);
+    StoredAttributes {
+        mode: maker.mode(kind, gid, given_mode(set.mode, mode)),
+        uid: maker.uid(set),
+        gid,
+        atime: time_after(set.atime, moment, moment),
+        mtime: time_after(set.mtime, moment, moment),
+        ctime: moment,
+    }
 }

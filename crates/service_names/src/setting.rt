@@ -7,10 +7,11 @@ ghost use Rattle.nfs_values.specs.declared.answer.Answer.TheVariants as answers;
 ghost use Rattle.filer_state.specs.state.Lenses.{logical_lens};
 ghost use Rattle.filer_state.specs.state.Promises.{HasVolume};
 ghost use Rattle.parcels.specs.Filled.{logical_alike};
+ghost use Rattle.nfs_values.specs.Caller.{caller_of};
 ghost use Rattle.nfs_values.specs.Moment.{moment_of};
 ghost use Rattle.nfs_values.specs.Set.{set_of};
 ghost use Rattle.inodes.specs.Inode.{attributes_value, inode_value};
-ghost use Rattle.filer_state.specs.changes.Attributes.{held_setattr, node_changed};
+ghost use Rattle.filer_state.specs.changes.Attributes.{held_setattr, node_changed, taken_of};
 ghost use Rattle.filer_state.specs.state.Changes.{node_set};
 ghost use Rattle.filer_state.specs.state.Sets.{logical_before, logical_after};
 ghost use Rattle.service_names.specs.Promises.{SetsAttributes};
@@ -19,12 +20,13 @@ ghost use Rattle.service_names.specs.Changing.{MayBeSet, with_value};
 use crate::attributes::{attributes_now, set_fault, with_attributes};
 use crate::showing::{prior, shown, shown_now};
 use crate::sizing::{set_inode, size_file};
-use crate::touches::{latest_touch, take_touches};
+use crate::touches::{latest_touch, settle_stripes};
 use filer_state::Files;
 use filer_state::changes::setting_calls_are_right;
-use inodes::{Inode, StoredAttributes};
-use nfs_values::{Change, Fileid, Moment, SetAttributes, Status, VolumeNumber};
+use inodes::{Inode, InodeKind, StoredAttributes};
+use nfs_values::{Caller, Change, Fileid, Moment, SetAttributes, Status, VolumeNumber};
 use parcels::LogicalHeld;
+use rights::file_set_taken;
 
 /// SETATTR (RFC 1813 section 3.3.2), on the parcels of a volume's names and attributes, at a
 /// moment: STALE where there is no node of the fileid, NOT_SYNC where a guard is another ctime,
@@ -36,16 +38,17 @@ pub fn set_attributes(
     fileid: Fileid,
     set: &SetAttributes,
     guard: Option<Moment>,
+    caller: &Caller,
     moment: Moment,
 ) -> Result<Change, Status>
     requires whole { HasVolume volume.0 logical_lens [] (logical_before held.old) }
     ensures right { SetsAttributes volume.0 fileid.0 (set_of set.now)
-        (option_map moment_of guard) (moment_of moment)
+        (option_map moment_of guard) (caller_of caller.now) (moment_of moment)
         (logical_before held.old) result (logical_after held.old held.new) }
     ensures alike { logical_alike held.old held.new }
 {
     setting_calls_are_right();
-    attributes_set(held, volume, fileid, set, guard, moment)
+    attributes_set(held, volume, fileid, set, guard, caller, moment)
 }
 
 /// What SETATTR comes to.
@@ -55,14 +58,15 @@ fn attributes_set(
     fileid: Fileid,
     set: &SetAttributes,
     guard: Option<Moment>,
+    caller: &Caller,
     moment: Moment,
 ) -> Result<Change, Status>
     requires whole { HasVolume volume.0 logical_lens [] (logical_before held.old) }
     ensures answer { answer_of (answers.SetAttributes result) ≡ (held_setattr volume.0 fileid.0
-        (set_of set.now) (option_map moment_of guard) (moment_of moment)
+        (set_of set.now) (option_map moment_of guard) (caller_of caller.now) (moment_of moment)
         (logical_before held.old)).answer }
     ensures set { logical_after held.old held.new ≡ (held_setattr volume.0 fileid.0
-        (set_of set.now) (option_map moment_of guard) (moment_of moment)
+        (set_of set.now) (option_map moment_of guard) (caller_of caller.now) (moment_of moment)
         (logical_before held.old)).set }
     ensures alike { logical_alike held.old held.new }
 {
@@ -74,9 +78,24 @@ fn attributes_set(
         return Err(fault);
     }
     let before = prior(shown_now(held, volume, fileid, inode));
-    let changed = set_node(held, fileid, inode, set, moment);
+    let taken = set_taken(caller, set, inode);
+    let changed = set_node(held, fileid, inode, &taken, moment);
     let after = shown(volume, fileid, changed, None);
     Ok(Change { before, after })
+}
+
+/// What a caller sets of a node: of a directory, all that is given; of a file with the mode that
+/// it may have.
+pub(crate) fn set_taken(caller: &Caller, set: &SetAttributes, inode: Inode) -> SetAttributes
+    ensures { set_of result
+        ≡ taken_of (caller_of caller.now) (set_of set.now) (inode_value inode) }
+{
+    match inode.kind {
+        InodeKind::RegularFile { .. } => {
+            file_set_taken(caller, set, inode.attributes.ownership())
+        }
+        InodeKind::Directory { .. } => *set,
+    }
 }
 
 /// Sets the node of a fileid, whose inode this is, to attributes at a moment, and tells its inode
@@ -103,7 +122,8 @@ pub(crate) fn set_node(
     }
 }
 
-/// Sets the node of a fileid, whose inode this is, to attributes, where its touches are taken.
+/// Sets the node of a fileid, whose inode this is, to attributes: its touches are taken, and its
+/// cards get its owner.
 fn settle_node(
     held: &mut LogicalHeld<Files>,
     fileid: Fileid,
@@ -118,7 +138,7 @@ fn settle_node(
         (logical_before held.old) }
     ensures alike { logical_alike held.old held.new }
 {
-    take_touches(held, fileid);
+    settle_stripes(held, fileid, attributes.ownership());
     let changed = Inode {
         attributes,
         kind: inode.kind,

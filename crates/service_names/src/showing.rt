@@ -79,7 +79,7 @@ fn shown_empty(volume: VolumeNumber, fileid: Fileid, now: StoredAttributes) -> A
 {
     Attributes {
         kind: FileKind::Regular,
-        mode: now.mode,
+        mode: u32::from(now.mode),
         links: 1,
         uid: now.uid,
         gid: now.gid,

@@ -1,6 +1,8 @@
 //! Files of a size set.
 
-ghost use Rattle.std.specs.Prelude.{◌≡◌, ◌<◌, ◌^◌, ◌-◌, ℕ, length};
+ghost use Rattle.std.specs.Prelude.{◌≡◌, ◌<◌, ◌^◌, ◌-◌, ℕ, None, length};
+ghost use Rattle.std.specs.Option.{option_map};
+ghost use Rattle.nfs_values.specs.Ownership.{ownership_of};
 ghost use Rattle.parcels.specs.Filled.{logical_alike};
 ghost use Rattle.inodes.specs.Inode.{attributes_value, inode_value, kind_value};
 ghost use Rattle.nfs_model.specs.volume.Inodes.{filled_blocks};
@@ -8,11 +10,12 @@ ghost use Rattle.filer_state.specs.changes.NodesSized.{all_freed, file_sized};
 ghost use Rattle.filer_state.specs.changes.NodesSized.{inode_sized, kind_sized};
 ghost use Rattle.filer_state.specs.state.Sets.{logical_before, logical_after};
 ghost use Rattle.service_names.specs.Changing.{MayBeSet, sizing, with_inode};
+ghost use Rattle.service_names.specs.Shaping.{file_shaped};
 
 use crate::cutting::size_stripes;
 use filer_state::Files;
 use inodes::{Inode, InodeKind, StoredAttributes};
-use nfs_values::Fileid;
+use nfs_values::{Fileid, Ownership};
 use parcels::LogicalHeld;
 
 /// Sets a file to a size, cut or grown by a hole, and to attributes, and tells its inode; the
@@ -33,7 +36,45 @@ pub fn size_file(
         (logical_before held.old) }
     ensures alike { logical_alike held.old held.new }
 {
-    let left = size_stripes(held, fileid, size, inode.kind.filled());
+    let owner = Some(attributes.ownership());
+    shape_file(held, fileid, inode, attributes, size, owner)
+}
+
+/// Takes all bytes of a file that is to be dropped, and tells its inode; its blocks are dead, and its
+/// cards stay. It needs no memory.
+pub(crate) fn empty_file(held: &mut LogicalHeld<Files>, fileid: Fileid, inode: Inode) -> Inode
+    requires { MayBeSet fileid.0 (logical_before held.old) }
+    ensures inode { inode_value result ≡ inode_sized
+        (sizing fileid.0 (inode_value inode) (attributes_value inode.attributes) 0)
+        (length (all_freed fileid.0 0 (logical_before held.old).stripes)) }
+    ensures set { logical_after held.old held.new ≡ file_shaped
+        (sizing fileid.0 (inode_value inode) (attributes_value inode.attributes) 0) None
+        (logical_before held.old) }
+    ensures alike { logical_alike held.old held.new }
+{
+    shape_file(held, fileid, inode, inode.attributes, 0, None)
+}
+
+/// Sets a file to a size and to attributes, and tells its inode; its cards show an owner and the
+/// size where an owner is given, and else stay.
+fn shape_file(
+    held: &mut LogicalHeld<Files>,
+    fileid: Fileid,
+    inode: Inode,
+    attributes: StoredAttributes,
+    size: u64,
+    owner: Option<Ownership>,
+) -> Inode
+    requires { MayBeSet fileid.0 (logical_before held.old) }
+    ensures inode { inode_value result ≡ inode_sized
+        (sizing fileid.0 (inode_value inode) (attributes_value attributes) size)
+        (length (all_freed fileid.0 size (logical_before held.old).stripes)) }
+    ensures set { logical_after held.old held.new ≡ file_shaped
+        (sizing fileid.0 (inode_value inode) (attributes_value attributes) size)
+        (option_map ownership_of owner) (logical_before held.old) }
+    ensures alike { logical_alike held.old held.new }
+{
+    let left = size_stripes(held, fileid, size, owner, inode.kind.filled());
     let sized = Inode {
         attributes,
         kind: sized_kind(inode.kind, size, left),

@@ -5,15 +5,16 @@ ghost use Rattle.filer_state.specs.changes.NameAnswers.{object_in};
 ghost use Rattle.filer_state.specs.state.Lenses.{logical_lens};
 ghost use Rattle.filer_state.specs.state.Promises.{HasVolume};
 ghost use Rattle.filer_state.specs.state.Sets.{logical_before};
-ghost use Rattle.nfs_values.specs.Credential.{credential_of};
+ghost use Rattle.nfs_values.specs.Caller.{caller_of};
 ghost use Rattle.service_names.specs.Promises.{ChecksAccess, TellsInfo, TellsPath};
 ghost use Rattle.service_names.specs.Shown.{IsObject};
 
 use crate::access::access_given;
+use crate::protection::protection_of;
 use crate::showing::shown_now;
 use filer_state::Files;
 use nfs_values::answer::{AccessResults, FilesystemInfoResults, PathConfigurationResults};
-use nfs_values::{Attributes, Credential, Fileid, Status, VolumeNumber};
+use nfs_values::{Attributes, Caller, Fileid, Status, VolumeNumber};
 use parcels::LogicalHeld;
 
 /// The attributes of the node of a fileid, or STALE where there is none.
@@ -32,25 +33,26 @@ pub(crate) fn object_at(
 }
 
 /// ACCESS (RFC 1813 section 3.3.4), on the parcels of a volume's names and attributes: of the bits
-/// that are asked for, those that the mode of a node gives to a caller, or STALE. No other call
-/// asks for these rights (our profile). It takes no memory.
+/// that are asked for, those that the mode of a node gives to a caller, or STALE. It takes no
+/// memory.
 pub fn check_access(
     held: &LogicalHeld<Files>,
     volume: VolumeNumber,
     fileid: Fileid,
     asked: u32,
-    who: Credential,
+    caller: &Caller,
 ) -> Result<AccessResults, Status>
     requires whole { HasVolume volume.0 logical_lens [] (logical_before held.now) }
-    ensures right { ChecksAccess volume.0 fileid.0 asked (credential_of who)
+    ensures right { ChecksAccess volume.0 fileid.0 asked (caller_of caller.now)
         (logical_before held.now) result }
 {
-    match object_at(held, volume, fileid) {
-        Ok(object) => {
-            let given = access_given(who, asked, object);
+    match held.own.get().inodes.get(fileid) {
+        Some(inode) => {
+            let object = shown_now(held, volume, fileid, inode);
+            let given = access_given(caller, asked, &protection_of(&inode));
             Ok(AccessResults { object, given })
         }
-        Err(status) => Err(status),
+        None => Err(Status::Stale),
     }
 }
 
@@ -75,17 +77,22 @@ pub fn filesystem_info(
 }
 
 /// PATHCONF (RFC 1813 section 3.3.20), on the parcels of a volume's names and attributes: the
-/// attributes of a node, or STALE. It takes no memory.
+/// attributes of a node, and whether the caller is checked, or STALE. It takes no memory.
 pub fn path_configuration(
     held: &LogicalHeld<Files>,
     volume: VolumeNumber,
     fileid: Fileid,
+    caller: &Caller,
 ) -> Result<PathConfigurationResults, Status>
     requires whole { HasVolume volume.0 logical_lens [] (logical_before held.now) }
-    ensures right { TellsPath volume.0 fileid.0 (logical_before held.now) result }
+    ensures right { TellsPath volume.0 fileid.0 (caller_of caller.now)
+        (logical_before held.now) result }
 {
     match object_at(held, volume, fileid) {
-        Ok(object) => Ok(PathConfigurationResults { object }),
+        Ok(object) => Ok(PathConfigurationResults {
+            object,
+            is_chown_restricted: caller.is_checked,
+        }),
         Err(status) => Err(status),
     }
 }

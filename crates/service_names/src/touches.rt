@@ -7,12 +7,17 @@ ghost use Rattle.nfs_model.specs.Shown.{moment_le, same_moment};
 ghost use Rattle.nfs_values.specs.Moment.{moment_of};
 ghost use Rattle.parcels.specs.Filled.{logical_alike};
 ghost use Rattle.nfs_model.specs.volume.Stripes.{touch_of, touch_taken};
-ghost use Rattle.filer_state.specs.state.Changes.{touches_taken};
+ghost use Rattle.nfs_values.specs.Ownership.{ownership_of};
+ghost use Rattle.filer_state.specs.state.Changes.{
+  stripe_settled,
+  stripes_settled,
+  touches_taken,
+};
 ghost use Rattle.filer_state.specs.state.Sets.{logical_before, logical_after, stripe_value};
 ghost use Rattle.filer_state.specs.state.Tree.{file_touch, later};
 
 use filer_state::Files;
-use nfs_values::{Fileid, Moment};
+use nfs_values::{Fileid, Moment, Ownership};
 use parcels::{LogicalHeld, StripeHeld};
 
 /// The latest touch of a file in the stripes of its volume.
@@ -48,6 +53,38 @@ pub fn take_touches(held: &mut LogicalHeld<Files>, fileid: Fileid) -> Option<Mom
         touch = later(take_touch(&mut held.stripes.at[left], fileid), touch);
     }
     touch
+}
+
+/// Takes the touches of a node in the stripes of its volume, where its cards get an owner. It takes
+/// no memory.
+pub(crate) fn settle_stripes(held: &mut LogicalHeld<Files>, fileid: Fileid, owner: Ownership)
+    requires few { held.old.own.stripes ≤ 16 }
+    ensures settled { (logical_after held.old held.new).stripes
+        ≡ stripes_settled fileid.0 (ownership_of owner) (logical_before held.old).stripes }
+    ensures own { held.new.own ≡ held.old.own }
+    ensures alike { logical_alike held.old held.new }
+{
+    let mut left = held.own.get().stripes as usize;
+    while left > 0 {
+        left -= 1;
+        settle_place(&mut held.stripes.at[left], fileid, owner);
+    }
+}
+
+/// Takes the touch of a node in the stripe in a place, where its card gets an owner.
+fn settle_place(place: &mut Option<StripeHeld<Files>>, fileid: Fileid, owner: Ownership)
+    ensures settled { stripe_value place.new
+        ≡ stripe_settled fileid.0 (ownership_of owner) (stripe_value place.old) }
+    ensures alike { is_some place.new ≡ is_some place.old }
+{
+    match place {
+        Some(stripe) => {
+            let own = stripe.own.get_mut();
+            own.take_touch(fileid);
+            own.set_owner(fileid, owner);
+        }
+        None => {}
+    }
 }
 
 /// Takes the touch of a file in the stripe in a place.

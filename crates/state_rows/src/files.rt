@@ -1,7 +1,7 @@
 //! A hole before a block and a cut inside it, and overwrites that stay within.
 
 use crate::same::same;
-use nfs_values::{BlockNumber, Fileid, Moment, Verifier};
+use nfs_values::{BlockNumber, Fileid, Moment, Ownership, Verifier};
 use std::mem;
 use std::process::Abort;
 use stripe_cards::CardKind;
@@ -14,12 +14,16 @@ const MOMENT: Moment = Moment {
     nanoseconds: 0,
 };
 
+/// What the card of the file tells where it has this many bytes.
+fn of_size(size: u64) -> CardKind {
+    let owner = Ownership::ROOT;
+    CardKind::File { size, owner }
+}
+
 /// A stripe of 8, of a volume with files of 16,777,216 bytes at most, with a file of 8,195 bytes.
 fn stripe(rt: &(impl Abort + AllocGlobal)) -> Stripe {
     let mut stripe = Stripe::new(rt.alloc(), Verifier([1, 2, 3, 4, 5, 6, 7, 8]), 8, 1 << 24);
-    stripe
-        .set_card(FILE, CardKind::File { size: 8195 })
-        .expect(rt, "no memory");
+    stripe.set_card(FILE, of_size(8195)).expect(rt, "no memory");
     stripe
 }
 
@@ -117,7 +121,7 @@ fn cut_within_a_block(rt: HostRuntime) {
     frees(&rt, &mut stripe, 8193, &[BlockNumber(9)]);
     frees_nothing(&rt, &mut stripe, 8193);
     stripe
-        .set_card(FILE, CardKind::File { size: 8200 })
+        .set_card(FILE, of_size(8200))
         .expect(&rt, "no memory");
     reads(&rt, &stripe, 8192, b"\x78\0\0\0\0\0\0\0");
     mem::forget(stripe);

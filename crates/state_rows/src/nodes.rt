@@ -2,13 +2,20 @@
 
 use crate::same::same;
 use inodes::{GROUP, Inode, InodeKind, Inodes, StoredAttributes};
-use nfs_values::{Fileid, Moment, Verifier};
+use nfs_values::{Fileid, Moment, Ownership, Verifier};
 use std::mem;
 use std::process::Abort;
 
 const MADE: Moment = Moment {
     seconds: 7,
     nanoseconds: 0,
+};
+
+/// The owner of the root.
+const OWNER: Ownership = Ownership {
+    mode: 0o1777,
+    uid: 65534,
+    gid: 65533,
 };
 
 /// A file of one owner with this many bytes and filled blocks.
@@ -55,7 +62,7 @@ fn create_and_undo(rt: &impl Abort, inodes: &mut Inodes, inode: Inode) -> Fileid
 
 /// The root alone.
 fn no_files(rt: &(impl Abort + AllocGlobal)) -> Inodes {
-    Inodes::new(rt.alloc(), MADE).expect(rt, "no memory")
+    Inodes::new(rt.alloc(), OWNER, MADE).expect(rt, "no memory")
 }
 
 /// Three files.
@@ -71,9 +78,9 @@ fn three(rt: &(impl Abort + AllocGlobal)) -> Inodes {
 #[test]
 fn root(rt: HostRuntime) {
     let inodes = no_files(&rt);
-    let root = Inode::root(MADE);
+    let root = Inode::root(OWNER, MADE);
     same(&rt, &inodes.get(Fileid::ROOT), &Some(root));
-    same(&rt, &root.attributes.mode, &493);
+    same(&rt, &root.attributes.ownership(), &OWNER);
     let times = (
         root.attributes.atime,
         root.attributes.mtime,

@@ -42,6 +42,8 @@ const CALLER: Caller = Caller {
         address: 0x7f00_0001,
         port: 1_023,
     },
+    is_checked: true,
+    reads_only: false,
 };
 
 const SET: SetAttributes = SetAttributes {

@@ -10,11 +10,10 @@ use Rattle.std.specs.Ordering.{nat_cmp, is_eq}
 use Rattle.std.specs.Cmp.{nat_cmp_total}
 use Rattle.std.specs.FinMap.{FinMap, empty, get, insert, remove, entries, len, find, put, get-entries, entries-insert, len-entries, len-empty}
 use Rattle.std.specs.FinMap.Entries.{by_order}
-use Rattle.nfs_model.specs.Types.{Moment}
+use Rattle.nfs_model.specs.Types.{Moment, Ownership}
 use Rattle.nfs_model.specs.volume.Maps.{changed_value, changed_at}
 use Rattle.nfs_model.specs.volume.lemmas.Numbered.{insert-same, insert-removed, removed-absent, remove-absent}
-use Rattle.nfs_model.specs.volume.Stripes.{Card, OfFile, OfDirectory, touch_of, card_touched, card_settled}
-use Rattle.stripe_cards.specs.Cards.{card_resized}
+use Rattle.nfs_model.specs.volume.Stripes.{Card, OfFile, OfDirectory, touch_of, card_touched, card_settled, card_sized, card_owned}
 use Rattle.chunk_maps.specs.Chunks.{one_if}
 use Rattle.stripe_cards.specs.Counts.{is_untouched, touches_on, touched_in, AreCounted, one_more, one_less, ChangesCount}
 
@@ -100,8 +99,8 @@ settled-none m k none = by (get m k) refl none
     by : (o : Option Card) → get m k ≡ o → touch_of o ≡ None → m ≡ changed_value card_settled o k m
     by None h e = refl
     by (Some OfDirectory) h e = sym (insert-same m k OfDirectory h)
-    by (Some (OfFile size None)) h e = sym (insert-same m k (OfFile size None) h)
-    by (Some (OfFile size (Some t))) h e = absurd (grind (arith, e))
+    by (Some (OfFile size None owner)) h e = sym (insert-same m k (OfFile size None owner) h)
+    by (Some (OfFile size (Some t) owner)) h e = absurd (grind (arith, e))
 
 -- ---- counts
 
@@ -175,12 +174,21 @@ module _ (counts : List ℕ) (m : FinMap nat_cmp Card) (k : ℕ) where
       let split = split-one class m k in
       let one = never (class == k % 256) in omega (arith, set, split, one))
 
-  pub counted-resized : (size : ℕ) → AreCounted counts m → AreCounted counts (changed_at (card_resized size) k m)
-  counted-resized size a = by (get m k) refl
+  pub counted-sized : (size : ℕ) → AreCounted counts m → AreCounted counts (changed_at (card_sized size) k m)
+  counted-sized size a = by (get m k) refl
     where
-      by : (o : Option Card) → get m k ≡ o → AreCounted counts (changed_value (card_resized size) o k m)
+      by : (o : Option Card) → get m k ≡ o → AreCounted counts (changed_value (card_sized size) o k m)
       by None h = a
-      by (Some x) h = counted-set (card_resized size x) (ap touch_of (sym h)) a
+      by (Some OfDirectory) h = counted-directory a
+      by (Some (OfFile old touch owner)) h = counted-set (OfFile size touch owner) (ap touch_of (sym h)) a
+
+  pub counted-owned : (owner : Ownership) → AreCounted counts m → AreCounted counts (changed_at (card_owned owner) k m)
+  counted-owned owner a = by (get m k) refl
+    where
+      by : (o : Option Card) → get m k ≡ o → AreCounted counts (changed_value (card_owned owner) o k m)
+      by None h = a
+      by (Some OfDirectory) h = counted-directory a
+      by (Some (OfFile size touch old)) h = counted-set (OfFile size touch owner) (ap touch_of (sym h)) a
 
   module _ (moment : Moment) where
     touched-more : (class : ℕ) → touched_in class (entries (changed_at (card_touched moment) k m)) ≤ touched_in class (entries m) + one_if (class == k % 256)
@@ -201,9 +209,9 @@ module _ (counts : List ℕ) (m : FinMap nat_cmp Card) (k : ℕ) where
             → touched_in class (entries (changed_value (card_touched moment) o k m)) ≤ touched_in class (entries m)
         by None f split = omega arith
         by (Some OfDirectory) f split = let set = set-one class m k OfDirectory in omega (arith, set, split)
-        by (Some (OfFile size None)) f split = absurd (grind (arith, f))
-        by (Some (OfFile size (Some t))) f split =
-            let set = set-one class m k (card_touched moment (OfFile size (Some t))) in omega (arith, set, split)
+        by (Some (OfFile size None owner)) f split = absurd (grind (arith, f))
+        by (Some (OfFile size (Some t) owner)) f split =
+            let set = set-one class m k (card_touched moment (OfFile size (Some t) owner)) in omega (arith, set, split)
 
     pub counted-touched : is_untouched (get m k) ≡ false → AreCounted counts m → AreCounted counts (changed_at (card_touched moment) k m)
     counted-touched not-first a = no-more counts m (changed_at (card_touched moment) k m) a (touched-same not-first)
@@ -221,9 +229,9 @@ module _ (counts : List ℕ) (m : FinMap nat_cmp Card) (k : ℕ) where
       by (Some OfDirectory) h split =
           let none = never (class == k % 256) in
           let set = set-one class m k OfDirectory in omega (arith, set, split, none)
-      by (Some (OfFile size touch)) h split =
+      by (Some (OfFile size touch owner)) h split =
           let none = never (class == k % 256) in
-          let set = set-one class m k (OfFile size None) in omega (arith, set, split, none)
+          let set = set-one class m k (OfFile size None owner) in omega (arith, set, split, none)
 
   removed-less : (class : ℕ) → touched_in class (entries (remove m k)) + touches_on class k (get m k) ≤ touched_in class (entries m)
   removed-less class = let split = split-one class m k in omega (arith, split)

@@ -8,7 +8,7 @@ use Rattle.chunk_maps.specs.Chunks.{one_if}
 
 -- whether a card is there, of a file without a touch
 abbrev pub is_untouched : Option Card → Bool
-is_untouched (Some (OfFile size touch)) = not (is_some touch)
+is_untouched (Some (OfFile size touch owner)) = not (is_some touch)
 is_untouched (Some OfDirectory) = false
 is_untouched None = false
 

@@ -4,11 +4,18 @@ ghost use Rattle.std.specs.Prelude.{◌≡◌, is_some};
 ghost use Rattle.std.specs.Option.{option_map};
 ghost use Rattle.nfs_values.specs.Moment.{moment_of};
 ghost use Rattle.nfs_model.specs.Shown.{touched as later_moment};
-ghost use Rattle.nfs_model.specs.volume.Stripes.{touch_of, card_touched, card_settled};
-ghost use Rattle.stripe_cards.specs.Cards.{card_of, card_resized};
+ghost use Rattle.nfs_values.specs.Ownership.{ownership_of};
+ghost use Rattle.nfs_model.specs.volume.Stripes.{
+  touch_of,
+  card_touched,
+  card_settled,
+  card_sized,
+  card_owned,
+};
+ghost use Rattle.stripe_cards.specs.Cards.{card_of};
 ghost use Rattle.stripe_cards.specs.Counts.{is_untouched};
 
-use nfs_values::Moment;
+use nfs_values::{Moment, Ownership};
 
 /// What a stripe knows of an inode.
 #[derive(Clone, Copy, Debug, PartialEq, Eq)]
@@ -18,6 +25,7 @@ pub enum Card {
         size: u64,
         /// The latest moment of a write to this stripe since the file's times were last set.
         touch: Option<Moment>,
+        owner: Ownership,
     },
     Directory,
 }
@@ -28,6 +36,7 @@ pub enum CardKind {
     File {
         /// In bytes.
         size: u64,
+        owner: Ownership,
     },
     Directory,
 }
@@ -37,9 +46,10 @@ pub(crate) fn touched(card: Card, moment: Moment) -> Card
     ensures { card_of result ≡ card_touched (moment_of moment) (card_of card) }
 {
     match card {
-        Card::File { size, touch } => Card::File {
+        Card::File { size, touch, owner } => Card::File {
             size,
             touch: Some(later(touch, moment)),
+            owner,
         },
         Card::Directory => Card::Directory,
     }
@@ -60,7 +70,11 @@ pub(crate) fn settled(card: Card) -> Card
     ensures { card_of result ≡ card_settled (card_of card) }
 {
     match card {
-        Card::File { size, .. } => Card::File { size, touch: None },
+        Card::File { size, owner, .. } => Card::File {
+            size,
+            touch: None,
+            owner,
+        },
         Card::Directory => Card::Directory,
     }
 }
@@ -94,12 +108,22 @@ pub(crate) fn is_untouched(card: Option<Card>) -> bool
     }
 }
 
-/// The card of a file with a size and the touch that a card has.
-pub(crate) fn resized(card: Card, size: u64) -> Card
-    ensures { card_of result ≡ card_resized size (card_of card) }
+/// A card with another size; that of a directory has none.
+pub(crate) fn sized(card: Card, size: u64) -> Card
+    ensures { card_of result ≡ card_sized size (card_of card) }
 {
-    Card::File {
-        size,
-        touch: touch_on(Some(card)),
+    match card {
+        Card::File { touch, owner, .. } => Card::File { size, touch, owner },
+        Card::Directory => Card::Directory,
+    }
+}
+
+/// A card with another owner; that of a directory has none.
+pub(crate) fn owned(card: Card, owner: Ownership) -> Card
+    ensures { card_of result ≡ card_owned (ownership_of owner) (card_of card) }
+{
+    match card {
+        Card::File { size, touch, .. } => Card::File { size, touch, owner },
+        Card::Directory => Card::Directory,
     }
 }

@@ -4,6 +4,7 @@ ghost use Rattle.std.specs.Prelude.{◌≡◌, IsOk, IsSome, OnOk, OnErr};
 ghost use Rattle.std.specs.Option.{option_map};
 ghost use Rattle.std.specs.FinMap.{empty, get, insert, remove};
 ghost use Rattle.nfs_values.specs.Moment.{moment_of};
+ghost use Rattle.nfs_values.specs.Ownership.{ownership_of};
 ghost use Rattle.nfs_model.specs.volume.Maps.{changed_at};
 ghost use Rattle.nfs_model.specs.volume.Stripes.{
   OfFile,
@@ -11,14 +12,16 @@ ghost use Rattle.nfs_model.specs.volume.Stripes.{
   touch_of,
   card_touched,
   card_settled,
+  card_sized,
+  card_owned,
 };
 ghost use Rattle.stripe_cards.specs.Cards.{card_of};
 
-use crate::card::{Card, is_touched, is_untouched, resized, settled, touch_on, touched};
+use crate::card::{Card, is_touched, is_untouched, owned, settled, sized, touch_on, touched};
 use crate::chunk::CardChunk;
 use crate::counts::{TouchCounts, class_of, count_down, count_up, no_touches};
 use chunk_maps::ChunkMap;
-use nfs_values::{Fileid, Moment};
+use nfs_values::{Fileid, Moment, Ownership};
 use std::alloc::{AllocError, Global};
 use std::marker::Model;
 
@@ -86,16 +89,21 @@ impl Cards {
         touch_on(self.get(fileid))
     }
 
-    /// Sets the card of a file to a size; the touch stays. Memory is needed only for a card that
-    /// isn't there, and where there is none for it nothing changes.
-    pub fn set_file(&mut self, fileid: Fileid, size: u64) -> Result<(), AllocError>
-        ensures ok { OnOk result (self.new
-            ≡ insert self.old fileid.0 (OfFile size (touch_of (get self.old fileid.0)))) }
+    /// Sets the card of a file to a size and an owner; the touch stays. Memory is needed only for a
+    /// card that isn't there, and where there is none for it nothing changes.
+    pub fn set_file(
+        &mut self,
+        fileid: Fileid,
+        size: u64,
+        owner: Ownership,
+    ) -> Result<(), AllocError>
+        ensures ok { OnOk result (self.new ≡ insert self.old fileid.0
+            (OfFile size (touch_of (get self.old fileid.0)) (ownership_of owner))) }
         ensures err { OnErr result (self.new ≡ self.old) }
         ensures succeeds { IsSome (get self.old fileid.0) → IsOk result }
     {
         let touch = self.touch_of(fileid);
-        self.chunks.put(fileid.0, Card::File { size, touch })
+        self.chunks.put(fileid.0, Card::File { size, touch, owner })
     }
 
     /// Sets the card of a directory. Memory is needed only for a card that isn't there, and where
@@ -108,13 +116,18 @@ impl Cards {
         self.chunks.put(fileid.0, Card::Directory)
     }
 
-    /// Sets the size of a file whose card is there; the touch stays. It takes no memory.
+    /// Sets the size on the card of a file, where there is one. It takes no memory.
     pub fn set_size(&mut self, fileid: Fileid, size: u64)
-        requires { IsSome (get self.old fileid.0) }
-        ensures { self.new
-            ≡ insert self.old fileid.0 (OfFile size (touch_of (get self.old fileid.0))) }
+        ensures { self.new ≡ changed_at (card_sized size) fileid.0 self.old }
     {
-        self.chunks.change(fileid.0, |card| resized(card, size));
+        self.chunks.change(fileid.0, |card| sized(card, size));
+    }
+
+    /// Sets the owner on the card of a file, where there is one. It takes no memory.
+    pub fn set_owner(&mut self, fileid: Fileid, owner: Ownership)
+        ensures { self.new ≡ changed_at (card_owned (ownership_of owner)) fileid.0 self.old }
+    {
+        self.chunks.change(fileid.0, |card| owned(card, owner));
     }
 
     /// Sets the touch of a file to the later of it and a moment. It takes no memory.

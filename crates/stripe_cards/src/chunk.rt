@@ -42,8 +42,8 @@ fn count(packed: Packed) -> u64
 {
     match packed {
         Packed::Absent => 0,
-        Packed::File(_) => 1,
-        Packed::TouchedFile(_, _, _) => 1,
+        Packed::File(_, _) => 1,
+        Packed::TouchedFile(_, _, _, _) => 1,
         Packed::Directory => 1,
     }
 }

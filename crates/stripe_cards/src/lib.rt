@@ -5,6 +5,7 @@ mod card;
 mod cards;
 mod chunk;
 mod counts;
+mod owner;
 mod packed;
 
 pub use card::{Card, CardKind};

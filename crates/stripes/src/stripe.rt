@@ -7,6 +7,7 @@ ghost use Rattle.std.specs.Option.{option_map};
 ghost use Rattle.std.specs.Vec.{vec_len, vec_capacity};
 ghost use Rattle.nfs_model.specs.Home.{span_bytes};
 ghost use Rattle.nfs_values.specs.Moment.{moment_of};
+ghost use Rattle.nfs_values.specs.Ownership.{ownership_of};
 ghost use Rattle.nfs_model.specs.volume.Stripes.{
   IsStripe,
   empty_stripe,
@@ -15,7 +16,8 @@ ghost use Rattle.nfs_model.specs.volume.Stripes.{
   stays_within,
   touch_of,
   touch_taken,
-  file_card_set,
+  file_card_sized,
+  file_card_owned,
   card_dropped,
   block_inserted,
   block_taken,
@@ -29,7 +31,7 @@ ghost use Rattle.stripe_cards.specs.Cards.{card_of, card_set};
 
 use crate::blocks::Blocks;
 use crate::freed_blocks::{FreedBlocks, GiveBack};
-use nfs_values::{BlockNumber, Fileid, Moment, Verifier};
+use nfs_values::{BlockNumber, Fileid, Moment, Ownership, Verifier};
 use std::alloc::{AllocError, Global};
 use std::marker::Model;
 use stripe_cards::{Card, CardKind, Cards};
@@ -135,17 +137,23 @@ impl Stripe {
         ensures succeeds { IsSome (get self.old.cards fileid.0) → IsOk result }
     {
         match card {
-            CardKind::File { size } => self.cards.set_file(fileid, size),
+            CardKind::File { size, owner } => self.cards.set_file(fileid, size, owner),
             CardKind::Directory => self.cards.set_directory(fileid),
         }
     }
 
-    /// Sets the size on the card of a file that is there; the touch stays. It takes no memory.
+    /// Sets the size on the card of a file, where there is one. It takes no memory.
     pub fn set_size(&mut self, fileid: Fileid, size: u64)
-        requires { IsSome (get self.old.cards fileid.0) }
-        ensures { self.new ≡ file_card_set fileid.0 size self.old }
+        ensures { self.new ≡ file_card_sized fileid.0 size self.old }
     {
         self.cards.set_size(fileid, size);
+    }
+
+    /// Sets the owner on the card of a file, where there is one. It takes no memory.
+    pub fn set_owner(&mut self, fileid: Fileid, owner: Ownership)
+        ensures { self.new ≡ file_card_owned fileid.0 (ownership_of owner) self.old }
+    {
+        self.cards.set_owner(fileid, owner);
     }
 
     /// Removes the card of an inode. It takes no memory.

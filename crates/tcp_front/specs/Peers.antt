@@ -1,43 +1,47 @@
--- Who sends a record (our profile).
-use Rattle.std.specs.Prelude.{ℕ, Bool, true, false, not, ◌&&◌, if◌then◌else◌}
-use Rattle.nfs_model.specs.Types.{Call, Caller, Stop, Asked, Ask, Refused, Undecoded, AuthError}
+-- Who sends a record, and what it may ask (our profile).
+use Rattle.std.specs.Prelude.{ℕ, Bool, true, not, ◌&&◌, ◌==◌, if◌then◌else◌}
+use Rattle.nfs_model.specs.Types.{Call, Caller, Grow, Stop, Asked, Ask, Refused, Undecoded, AuthError}
+use Rattle.nfs_model.specs.Standing.{Standing, standing}
 use Rattle.nfs_model.specs.World.{Heard}
 use Rattle.nfs_values.specs.Caller.{peer_of}
+use Rattle.nfs_values.specs.Standing.{standing_of}
 use Rattle.tcp_front.specs.declared.peer.Peer.{Peer}
 
--- who sends records: whether it may stop the server, and its address and port as one number
+-- who sends records: whether it may stop the server, its address and port as one number, and how its callers stand
 pub record Sender : Type 0 where
   pub privileged : Bool
   pub number : ℕ
+  pub standing : Standing
 
 -- that is a peer
 abbrev pub sender_of : Peer → Sender
-sender_of peer = record { privileged = peer.is_privileged; number = peer_of peer.address }
+sender_of peer = record { privileged = peer.is_privileged; number = peer_of peer.address; standing = standing_of peer.standing }
 
-abbrev pub is_stop : Call → Bool
-is_stop Stop = true
-is_stop call = false
+-- STOP is for privileged senders: where their callers are checked, for uid 0 as the record bears it, and not for one that only reads
+abbrev pub may_stop : Sender → Caller → Bool
+may_stop sender caller =
+    if sender.standing.checked then sender.privileged && (caller.credential.uid == 0) && not sender.standing.reads_only
+    else sender.privileged
 
--- whether a record asks that the server stops
-abbrev pub asks_stop : Asked → Bool
-asks_stop (Ask call caller) = is_stop call
-asks_stop (Refused reply) = false
-asks_stop Undecoded = false
+-- GROW is everybody's, but where callers are checked it is for whom STOP is
+abbrev pub may_grow : Sender → Caller → Bool
+may_grow sender caller = if sender.standing.checked then may_stop sender caller else true
 
--- a caller at this address and port
-abbrev pub caller_at : ℕ → Caller → Caller
-caller_at number caller = record caller { peer = number }
+-- whether a sender may ask a call, for a caller as the record bears it
+abbrev pub may_ask : Sender → Call → Caller → Bool
+may_ask sender Stop caller = may_stop sender caller
+may_ask sender (Grow volume ranges) caller = may_grow sender caller
+may_ask sender call caller = true
 
--- what a record asks, from there
-abbrev pub asked_at : ℕ → Asked → Asked
-asked_at number (Ask call caller) = Ask call (caller_at number caller)
-asked_at number (Refused reply) = Refused reply
-asked_at number Undecoded = Undecoded
+-- a caller of this sender
+abbrev pub caller_at : Sender → Caller → Caller
+caller_at sender caller = standing sender.standing (record caller { peer = sender.number })
 
--- What a record asks of a sender: its call comes from there. That the server stops is for privileged ones, and refused of others
--- (AUTH_TOOWEAK, RFC 5531 section 9).
+-- What a record asks of a sender: its call comes from there. What it may not ask is refused (AUTH_TOOWEAK, RFC 5531 section 9).
 abbrev pub asked_from : Sender → Asked → Asked
-asked_from sender asked = if asks_stop asked && not sender.privileged then Refused (AuthError 5) else asked_at sender.number asked
+asked_from sender (Ask call caller) = if may_ask sender call caller then Ask call (caller_at sender caller) else Refused (AuthError 5)
+asked_from sender (Refused reply) = Refused reply
+asked_from sender Undecoded = Undecoded
 
 -- the record of such a sender
 abbrev pub from_peer : Sender → Heard → Heard

@@ -7,10 +7,9 @@ ghost use Rattle.outboxes.specs.Messages.{message};
 ghost use Rattle.engine_feed.specs.Admission.{reply_at_once};
 ghost use Rattle.engine_feed.specs.Seen.{asked_of};
 ghost use Rattle.nfs_values.specs.Call.{call_of};
-ghost use Rattle.nfs_values.specs.Caller.{caller_of, peer_of};
-ghost use Rattle.rpc_msg.specs.declared.record.Request.TheVariants as requests;
+ghost use Rattle.nfs_values.specs.Caller.{caller_of};
 ghost use Rattle.tcp_front.specs.Arrivals.{Answered};
-ghost use Rattle.tcp_front.specs.Peers.{asked_from, caller_at, is_stop, sender_of};
+ghost use Rattle.tcp_front.specs.Peers.{caller_at, may_ask, may_grow, may_stop, sender_of};
 ghost use Rattle.tcp_front.specs.Steps.{given_of};
 
 use crate::peer::Peer;
@@ -22,39 +21,47 @@ use rpc_msg::Request;
 use scheduler::{Message, Origin};
 use std::alloc::{AllocError, Global};
 
-/// Whether a call asks that the server stops.
-fn is_stop(call: &Call) -> bool
-    ensures { result ≡ is_stop (call_of call.now) }
+/// Whether a peer may stop the server, for a caller as its record bears it.
+fn may_stop(peer: Peer, caller: &Caller) -> bool
+    ensures { result ≡ may_stop (sender_of peer) (caller_of caller.now) }
+{
+    if !peer.standing.is_checked {
+        return peer.is_privileged;
+    }
+    peer.is_privileged && caller.credential.uid == 0 && !peer.standing.reads_only
+}
+
+/// Whether a peer may have a volume grow.
+fn may_grow(peer: Peer, caller: &Caller) -> bool
+    ensures { result ≡ may_grow (sender_of peer) (caller_of caller.now) }
+{
+    if peer.standing.is_checked {
+        may_stop(peer, caller)
+    } else {
+        true
+    }
+}
+
+/// Whether a peer may ask a call, for a caller as its record bears it.
+fn may_ask(peer: Peer, call: &Call, caller: &Caller) -> bool
+    ensures { result ≡ may_ask (sender_of peer) (call_of call.now) (caller_of caller.now) }
 {
     match call {
-        Call::Stop => true,
-        _ => false,
+        Call::Stop => may_stop(peer, caller),
+        Call::Grow { .. } => may_grow(peer, caller),
+        _ => true,
     }
 }
 
 /// Who makes a call of a peer.
 fn caller_at(peer: Peer, caller: Caller) -> Caller
-    ensures { caller_of result ≡ caller_at (peer_of peer.address) (caller_of caller) }
+    ensures { caller_of result ≡ caller_at (sender_of peer) (caller_of caller) }
 {
-    Caller {
+    let caller = Caller {
         peer: peer.address,
         ..caller
-    }
-}
-
-/// What a call of a peer asks, from there: that the server stops is refused but of a privileged
-/// one.
-fn from_peer(peer: Peer, call: Call, caller: Caller) -> Request
-    ensures { asked_of result
-        ≡ asked_from (sender_of peer) (asked_of (requests.Call call caller)) }
-{
-    if is_stop(&call) && !peer.is_privileged {
-        return Request::Refused(Refusal::AuthError(AuthFault::TooWeak));
-    }
-    Request::Call {
-        call,
-        caller: caller_at(peer, caller),
-    }
+    };
+    peer.standing.caller(caller)
 }
 
 /// Answers a record that has no home. It stands apart, so that others have no room for its reply.
@@ -76,7 +83,8 @@ fn answer_now<S: RecordSink>(
     sink.answer(origin.connection, origin.xid, &mut reply)
 }
 
-/// Gives on what a record of a peer asks: a call with a home to be run, and else the reply.
+/// Gives on what a record of a peer asks: a call with a home to be run, and else the reply. A call
+/// that the peer may not ask is refused.
 pub(crate) fn give<S: RecordSink>(
     alloc: Global,
     sink: &mut S,
@@ -94,19 +102,26 @@ pub(crate) fn give<S: RecordSink>(
     ensures layout { S.layout sink.new ≡ S.layout sink.old }
 {
     match request {
-        Request::Call { call, caller } => match admission_of(layout, &call) {
-            Some(admission) => sink.admit(Message {
-                origin,
-                call,
-                caller: caller_at(peer, caller),
-                affinity: admission.affinity,
-                room: admission.room,
-            }),
-            None => {
-                let request = from_peer(peer, call, caller);
-                answer_now(alloc, sink, layout, origin, &request)
+        Request::Call { call, caller } => {
+            if !may_ask(peer, &call, &caller) {
+                let refused = Request::Refused(Refusal::AuthError(AuthFault::TooWeak));
+                return answer_now(alloc, sink, layout, origin, &refused);
             }
-        },
+            match admission_of(layout, &call) {
+                Some(admission) => sink.admit(Message {
+                    origin,
+                    call,
+                    caller: caller_at(peer, caller),
+                    affinity: admission.affinity,
+                    room: admission.room,
+                }),
+                None => {
+                    let caller = caller_at(peer, caller);
+                    let request = Request::Call { call, caller };
+                    answer_now(alloc, sink, layout, origin, &request)
+                }
+            }
+        }
         Request::Refused(refusal) => {
             answer_now(alloc, sink, layout, origin, &Request::Refused(refusal))
         }

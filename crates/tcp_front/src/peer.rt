@@ -1,6 +1,6 @@
 //! Who is at the other end of a connection.
 
-use nfs_values::PeerAddress;
+use nfs_values::{PeerAddress, Standing};
 
 /// Who is at the other end of a connection.
 #[derive(Clone, Copy)]
@@ -9,4 +9,6 @@ pub struct Peer {
     pub is_privileged: bool,
     /// Where its calls come from.
     pub address: PeerAddress,
+    /// How its callers stand.
+    pub standing: Standing,
 }

@@ -3,7 +3,7 @@
 use crate::holds::holds;
 use crate::layouts::aggregates;
 use affinity::{AggregateSpec, Layout, SizedVolumeSpec, VolumeSpec};
-use nfs_values::Moment;
+use nfs_values::{Moment, Ownership};
 use std::mem;
 use std::process::Abort;
 
@@ -16,7 +16,15 @@ const BEGUN: Moment = Moment {
     nanoseconds: 999_999_999,
 };
 
-/// A volume of one range, on the first aggregate, with 4,096 steps, that begins at a moment.
+/// An owner that isn't uid 0.
+const ROOT: Ownership = Ownership {
+    mode: 0o1_777,
+    uid: 1_000,
+    gid: 100,
+};
+
+/// A volume of one range, on the first aggregate, with 4,096 steps, that begins at a moment with an
+/// owner of its root.
 fn volume(row: Sizes) -> SizedVolumeSpec {
     SizedVolumeSpec {
         volume: VolumeSpec {
@@ -29,6 +37,7 @@ fn volume(row: Sizes) -> SizedVolumeSpec {
         inodes: row.3,
         most_steps: 4_096,
         begun: BEGUN,
+        root: ROOT,
         remembered: 7,
     }
 }
@@ -176,6 +185,15 @@ fn steps_and_beginnings(rt: HostRuntime) {
     holds(&rt, layout.begun_of(0) == Moment::START);
     holds(&rt, layout.begun_of(1) == BEGUN);
     holds(&rt, layout.begun_of(2) == Moment::START);
+    mem::forget(layout);
+}
+
+#[test]
+fn owners_of_roots(rt: HostRuntime) {
+    let layout = two_sizes(&rt);
+    holds(&rt, layout.root_of(0) == Ownership::ROOT);
+    holds(&rt, layout.root_of(1) == ROOT);
+    holds(&rt, layout.root_of(2) == Ownership::ROOT);
     mem::forget(layout);
 }
 

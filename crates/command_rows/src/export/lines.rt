@@ -30,7 +30,7 @@ fn serves_as_usual(rt: &impl Abort, options: &Options) {
     assert!(rt; options.connections.is_none());
     assert!(rt; options.admission.most_open == 1_024);
     assert!(rt; options.admission.when_full == WhenFull::IsClosed);
-    assert!(rt; matches!(options.peers, Peers::Loopback));
+    assert!(rt; matches!(options.rules.peers, Peers::Loopback));
 }
 
 /// Looks after how many seconds connections are idle.

@@ -73,14 +73,17 @@ fn all_addresses_of_a_host_are_allowed(rt: HostRuntime) {
     let Some(Command::Export(exporting)) = asked(&rt, &words) else {
         panic!(&rt; "no export");
     };
-    let Peers::Networks(networks) = exporting.options.peers else {
+    let Peers::Networks(networks) = exporting.options.rules.peers else {
         panic!(&rt; "no networks");
     };
     for text in ["10.1.2.3", "192.0.2.7", "2001:db8::7"] {
         let peer = text.parse::<IpAddr>().ok().expect(&rt, "an address");
         holds(
             &rt,
-            networks.iter().flatten().any(|network| network.has(&peer)),
+            networks
+                .iter()
+                .flatten()
+                .any(|allowed| allowed.network.has(&peer)),
         );
     }
     holds(&rt, networks.iter().flatten().count() == 3);

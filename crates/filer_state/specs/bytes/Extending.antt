@@ -35,7 +35,7 @@ filled_with fileid (b ∷ blocks) (n ∷ numbers) stripes = filled_with fileid b
 
 -- a file's card that shows at least a size
 abbrev pub card_grown : ℕ → Card → Card
-card_grown end (OfFile size touch) = OfFile (max size end) touch
+card_grown end (OfFile size touch owner) = OfFile (max size end) touch owner
 card_grown end OfDirectory = OfDirectory
 
 abbrev pub stripe_grown : ℕ → ℕ → StripeValue → StripeValue

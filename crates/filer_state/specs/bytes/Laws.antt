@@ -9,12 +9,12 @@ use Rattle.nfs_model.specs.volume.Stripes.{StripeValue}
 use Rattle.filer_state.specs.state.Jobs.{Replied}
 use Rattle.filer_state.specs.state.Lenses.{LogicalSet, logical_lens, stripe_lens}
 use Rattle.filer_state.specs.state.Promises.{RightOnVolume}
-use Rattle.filer_state.specs.state.Calls.{VolumeCall, ServesOn, WorksOn, LieIn}
+use Rattle.filer_state.specs.state.Calls.{VolumeCall, unasked, ServesOn, WorksOn, LieIn}
 use Rattle.filer_state.specs.bytes.Reading.{stripe_read, logical_read}
 
 abbrev pub read_call : List ℕ → Affinity → ℕ → ℕ → ℕ → VolumeCall
 read_call handle node fileid offset count =
-    record { call = Read handle offset count; node = node; fileid = fileid; run = λ volume. read offset count volume fileid }
+    record { call = Read handle offset count; caller = unasked; node = node; fileid = fileid; run = λ volume. read offset count volume fileid }
 
 -- ---- Whatever the rest of the volume is, the answer is the serial server's, and nothing changes.
 

@@ -42,7 +42,7 @@ file_written v fileid w s =
 abbrev pub card_written : ℕ → ℕ → Writing → Option Card → StripeValue → StripeOutcome
 card_written v fileid w None s = fails Stale s
 card_written v fileid w (Some OfDirectory) s = fails Invalid s
-card_written v fileid w (Some (OfFile size touch)) s = file_written v fileid w s
+card_written v fileid w (Some (OfFile size touch owner)) s = file_written v fileid w s
 
 abbrev pub stripe_write : ℕ → ℕ → Writing → StripeValue → StripeOutcome
 stripe_write v fileid w s = card_written v fileid w (get s.cards fileid) s

@@ -6,16 +6,21 @@ use Rattle.nfs_model.specs.Server.{most_bytes}
 use Rattle.nfs_model.specs.Serial.Write.{Writing, write}
 use Rattle.nfs_model.specs.volume.Stripes.{StripeValue}
 use Rattle.filer_state.specs.state.Lenses.{stripe_lens}
-use Rattle.filer_state.specs.state.Calls.{VolumeCall, LieIn}
+use Rattle.filer_state.specs.state.Calls.{VolumeCall, unasked, LieIn}
 use Rattle.filer_state.specs.state.Running.{RunsOn}
 use Rattle.filer_state.specs.bytes.Writing.{stripe_write}
+
+-- a WRITE that is asked nothing of its caller, and clears no bit of the mode
+abbrev pub plain : Writing → Writing
+plain w = record w { caller = unasked }
 
 abbrev pub write_call : List ℕ → Affinity → ℕ → Writing → VolumeCall
 write_call handle node fileid w = record {
   call = Write handle w.offset w.count w.written;
+  caller = unasked;
   node = node;
   fileid = fileid;
-  run = λ volume. write w volume fileid;
+  run = λ volume. write (plain w) volume fileid;
 }
 
 -- Whatever the rest of the volume is, by the i-th stripe, where the bytes lie in it: a reply is the serial server's, and so is the

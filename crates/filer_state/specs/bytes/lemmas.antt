@@ -38,3 +38,8 @@ pub mod FreeCount
 pub mod FilledParts
 pub mod VolumeWrites
 pub mod VolumeStarves
+pub mod Callers
+pub mod ReadsBy
+pub mod WritesBy
+pub mod Ended
+pub mod Clears

@@ -1,9 +1,11 @@
 -- SETATTR by what is under Logical (RFC 1813 section 3.3.2).
 use Rattle.std.specs.Prelude.{ℕ, Bool, false, length, Option, Some, None, is_some, if◌then◌else◌}
 use Rattle.std.specs.FinMap.{get}
-use Rattle.nfs_model.specs.Types.{Moment, SetAttributes, Status, NotSynchronous, Invalid, TooBig, SetattrDone}
+use Rattle.nfs_model.specs.Types.{Moment, Caller, Regular, SetAttributes, Status, NotSynchronous, Invalid, TooBig, SetattrDone}
+use Rattle.nfs_model.specs.Server.{Attributes}
 use Rattle.nfs_model.specs.Shown.{before_of}
-use Rattle.nfs_model.specs.Serial.Setattr.{is_stale_guard, has_bad_time, is_past, set_attributes}
+use Rattle.nfs_model.specs.Serial.Rights.{protected}
+use Rattle.nfs_model.specs.Serial.Setattr.{is_stale_guard, has_bad_time, is_past, set_attributes, mode_taken}
 use Rattle.nfs_model.specs.volume.Inodes.{InodeKind, RegularFile, DirectoryKind, Inode}
 use Rattle.filer_state.specs.state.Tree.{file_touch}
 use Rattle.filer_state.specs.state.Lenses.{LogicalSet}
@@ -41,6 +43,17 @@ node_sized fileid set moment inode (Some size) s = record {
 abbrev pub node_changed : ℕ → SetAttributes → Moment → Inode → LogicalSet → NodeSet
 node_changed fileid set moment inode s = node_sized fileid set moment inode set.size s
 
+-- ---- what a checked caller's attributes are taken as
+
+-- by what the node is: of a directory, all that is given
+abbrev pub taken_by : Caller → SetAttributes → Attributes → InodeKind → SetAttributes
+taken_by caller set a (RegularFile size filled verifier) =
+    if caller.checked then record set { mode = mode_taken caller.credential set (protected Regular a) set.mode } else set
+taken_by caller set a (DirectoryKind parent subdirectories) = set
+
+abbrev pub taken_of : Caller → SetAttributes → Inode → SetAttributes
+taken_of caller set inode = taken_by caller set inode.attributes inode.kind
+
 -- ---- the procedure
 
 -- a size for a directory
@@ -73,6 +86,7 @@ node_replaced v fileid old s new = record {
 }
 
 -- STALE, then the checks, then the change
-abbrev pub held_setattr : ℕ → ℕ → SetAttributes → Option Moment → Moment → LogicalSet → LogicalAnswer
-held_setattr v fileid set guard moment s = on_inode (get s.own.inodes.inodes fileid) s (λ inode.
-    unless_fault (node_fault fileid set guard inode s) s (node_replaced v fileid inode s (node_changed fileid set moment inode s)))
+abbrev pub held_setattr : ℕ → ℕ → SetAttributes → Option Moment → Caller → Moment → LogicalSet → LogicalAnswer
+held_setattr v fileid set guard caller moment s = on_inode (get s.own.inodes.inodes fileid) s (λ inode.
+    unless_fault (node_fault fileid set guard inode s) s
+    (node_replaced v fileid inode s (node_changed fileid (taken_of caller set inode) moment inode s)))

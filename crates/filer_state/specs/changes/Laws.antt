@@ -1,6 +1,6 @@
 -- What calls that change a volume come to, by what is under Logical (RFC 1813 section 3.3).
 use Rattle.std.specs.Prelude.{◌≡◌, ℕ, ◌&&◌, ◌==◌, false, List, [], Option, Some, None}
-use Rattle.nfs_model.specs.Types.{Moment, Credential, SetAttributes, CreateMode, Shown, Wcc, MadeDone, Success}
+use Rattle.nfs_model.specs.Types.{Moment, Caller, SetAttributes, CreateMode, Shown, Wcc, MadeDone, Success}
 use Rattle.nfs_model.specs.Types.{Create, Mkdir, Remove, Rmdir, Rename, RenameDone}
 use Rattle.nfs_model.specs.Tree.{Affinity}
 use Rattle.nfs_model.specs.Server.{handle_of}
@@ -16,7 +16,7 @@ use Rattle.nfs_model.specs.volume.Directories.{fileid_found}
 use Rattle.filer_state.specs.state.Jobs.{Replied}
 use Rattle.filer_state.specs.state.Lenses.{LogicalSet, logical_lens}
 use Rattle.filer_state.specs.state.Promises.{RightOnVolume}
-use Rattle.filer_state.specs.state.Calls.{VolumeCall, ServesOn, WorksOn}
+use Rattle.filer_state.specs.state.Calls.{VolumeCall, ServesOn, WorksOn, unasked}
 use Rattle.filer_state.specs.state.Changes.{LogicalAnswer}
 use Rattle.filer_state.specs.attributes.Laws.{setattr_call}
 use Rattle.filer_state.specs.names.Answers.{entries_of}
@@ -28,34 +28,37 @@ use Rattle.filer_state.specs.changes.Renaming.{on_held_names, held_rename}
 
 -- ---- the calls
 
-abbrev pub create_call : List ℕ → Affinity → ℕ → List ℕ → CreateMode → Credential → Moment → VolumeCall
-create_call handle node fileid name mode credential moment = record {
+abbrev pub create_call : List ℕ → Affinity → ℕ → List ℕ → CreateMode → Caller → Moment → VolumeCall
+create_call handle node fileid name mode caller moment = record {
   call = Create handle name mode;
+  caller = unasked;
   node = node;
   fileid = fileid;
-  run = λ volume. on_name name moment (create mode credential) volume fileid;
+  run = λ volume. on_name name moment (create mode caller) volume fileid;
 }
 
-abbrev pub mkdir_call : List ℕ → Affinity → ℕ → List ℕ → SetAttributes → Credential → Moment → VolumeCall
-mkdir_call handle node fileid name set credential moment = record {
+abbrev pub mkdir_call : List ℕ → Affinity → ℕ → List ℕ → SetAttributes → Caller → Moment → VolumeCall
+mkdir_call handle node fileid name set caller moment = record {
   call = Mkdir handle name set;
+  caller = unasked;
   node = node;
   fileid = fileid;
-  run = λ volume. on_name name moment (mkdir set credential) volume fileid;
+  run = λ volume. on_name name moment (mkdir set caller) volume fileid;
 }
 
 abbrev pub remove_call : List ℕ → Affinity → ℕ → List ℕ → Moment → VolumeCall
 remove_call handle node fileid name moment =
-    record { call = Remove handle name; node = node; fileid = fileid; run = λ volume. on_name name moment remove_name volume fileid }
+    record { call = Remove handle name; caller = unasked; node = node; fileid = fileid; run = λ volume. on_name name moment remove_name volume fileid }
 
 abbrev pub rmdir_call : List ℕ → Affinity → ℕ → List ℕ → Moment → VolumeCall
 rmdir_call handle node fileid name moment =
-    record { call = Rmdir handle name; node = node; fileid = fileid; run = λ volume. on_name name moment rmdir volume fileid }
+    record { call = Rmdir handle name; caller = unasked; node = node; fileid = fileid; run = λ volume. on_name name moment rmdir volume fileid }
 
 -- from's handle comes to the volume; to's names another fileid there, or the same
 abbrev pub rename_call : List ℕ → List ℕ → Affinity → ℕ → List ℕ → ℕ → List ℕ → Moment → VolumeCall
 rename_call from to node from_id from_name to_id to_name moment = record {
   call = Rename from from_name to to_name;
+  caller = unasked;
   node = node;
   fileid = from_id;
   run = λ volume. rename from_name to_name moment volume from_id to_id;
@@ -63,11 +66,11 @@ rename_call from to node from_id from_name to_id to_name moment = record {
 
 -- ---- what they come to
 
-abbrev pub create_done : ℕ → ℕ → List ℕ → CreateMode → Credential → Moment → LogicalSet → LogicalAnswer
-create_done v fileid name mode credential moment s = on_held_name v fileid name moment (held_create mode credential) s
+abbrev pub create_done : ℕ → ℕ → List ℕ → CreateMode → Caller → Moment → LogicalSet → LogicalAnswer
+create_done v fileid name mode caller moment s = on_held_name v fileid name moment (held_create mode caller) s
 
-abbrev pub mkdir_done : ℕ → ℕ → List ℕ → SetAttributes → Credential → Moment → LogicalSet → LogicalAnswer
-mkdir_done v fileid name set credential moment s = on_held_name v fileid name moment (held_mkdir set credential) s
+abbrev pub mkdir_done : ℕ → ℕ → List ℕ → SetAttributes → Caller → Moment → LogicalSet → LogicalAnswer
+mkdir_done v fileid name set caller moment s = on_held_name v fileid name moment (held_mkdir set caller) s
 
 abbrev pub remove_done : ℕ → ℕ → List ℕ → Moment → LogicalSet → LogicalAnswer
 remove_done v fileid name moment s = on_held_name v fileid name moment held_remove s
@@ -85,16 +88,16 @@ abbrev pub IsDone : ℕ → VolumeCall → LogicalSet → LogicalAnswer → Type
 IsDone v c s done = RightOnVolume v logical_lens (ServesOn c false) [] [] s (Replied (Success done.answer)) done.set
 
 abbrev pub SetattrIsDone : Type 0
-SetattrIsDone = (v fileid : ℕ) (handle : List ℕ) (node : Affinity) (set : SetAttributes) (guard : Option Moment) (moment : Moment) (s : LogicalSet)
-    → IsDone v (setattr_call handle node fileid set guard moment) s (held_setattr v fileid set guard moment s)
+SetattrIsDone = (v fileid : ℕ) (handle : List ℕ) (node : Affinity) (set : SetAttributes) (guard : Option Moment) (caller : Caller) (moment : Moment)
+    (s : LogicalSet) → IsDone v (setattr_call handle node fileid set guard caller moment) s (held_setattr v fileid set guard caller moment s)
 
 abbrev pub CreateIsDone : Type 0
-CreateIsDone = (v fileid : ℕ) (handle name : List ℕ) (node : Affinity) (mode : CreateMode) (credential : Credential) (moment : Moment) (s : LogicalSet)
-    → IsDone v (create_call handle node fileid name mode credential moment) s (create_done v fileid name mode credential moment s)
+CreateIsDone = (v fileid : ℕ) (handle name : List ℕ) (node : Affinity) (mode : CreateMode) (caller : Caller) (moment : Moment) (s : LogicalSet)
+    → IsDone v (create_call handle node fileid name mode caller moment) s (create_done v fileid name mode caller moment s)
 
 abbrev pub MkdirIsDone : Type 0
-MkdirIsDone = (v fileid : ℕ) (handle name : List ℕ) (node : Affinity) (set : SetAttributes) (credential : Credential) (moment : Moment) (s : LogicalSet)
-    → IsDone v (mkdir_call handle node fileid name set credential moment) s (mkdir_done v fileid name set credential moment s)
+MkdirIsDone = (v fileid : ℕ) (handle name : List ℕ) (node : Affinity) (set : SetAttributes) (caller : Caller) (moment : Moment) (s : LogicalSet)
+    → IsDone v (mkdir_call handle node fileid name set caller moment) s (mkdir_done v fileid name set caller moment s)
 
 abbrev pub RemoveIsDone : Type 0
 RemoveIsDone = (v fileid : ℕ) (handle name : List ℕ) (node : Affinity) (moment : Moment) (s : LogicalSet)
@@ -114,16 +117,16 @@ abbrev pub MayStarve : ℕ → VolumeCall → LogicalSet → Type 0
 MayStarve v c s = RightOnVolume v logical_lens (WorksOn c) [] [] s Starved s
 
 abbrev pub CreateMayStarve : Type 0
-CreateMayStarve = (v fileid : ℕ) (handle name : List ℕ) (node : Affinity) (mode : CreateMode) (credential : Credential) (moment : Moment) (s : LogicalSet)
+CreateMayStarve = (v fileid : ℕ) (handle name : List ℕ) (node : Affinity) (mode : CreateMode) (caller : Caller) (moment : Moment) (s : LogicalSet)
     (made : List ℕ) (object : Shown) (directory : Wcc)
-    → (create_done v fileid name mode credential moment s).answer ≡ MadeDone made object directory → fileid_found (entries_of s.own fileid) name ≡ None
-    → MayStarve v (create_call handle node fileid name mode credential moment) s
+    → (create_done v fileid name mode caller moment s).answer ≡ MadeDone made object directory → fileid_found (entries_of s.own fileid) name ≡ None
+    → MayStarve v (create_call handle node fileid name mode caller moment) s
 
 abbrev pub MkdirMayStarve : Type 0
-MkdirMayStarve = (v fileid : ℕ) (handle name : List ℕ) (node : Affinity) (set : SetAttributes) (credential : Credential) (moment : Moment) (s : LogicalSet)
+MkdirMayStarve = (v fileid : ℕ) (handle name : List ℕ) (node : Affinity) (set : SetAttributes) (caller : Caller) (moment : Moment) (s : LogicalSet)
     (made : List ℕ) (object : Shown) (directory : Wcc)
-    → (mkdir_done v fileid name set credential moment s).answer ≡ MadeDone made object directory
-    → MayStarve v (mkdir_call handle node fileid name set credential moment) s
+    → (mkdir_done v fileid name set caller moment s).answer ≡ MadeDone made object directory
+    → MayStarve v (mkdir_call handle node fileid name set caller moment) s
 
 -- where to's handle names that fileid there, and the names aren't of one entry
 abbrev pub RenameMayStarve : Type 0

@@ -1,19 +1,20 @@
 -- CREATE and MKDIR by what is under Logical (RFC 1813 sections 3.3.8 and 3.3.9).
-use Rattle.std.specs.Prelude.{ℕ, nat_le, Bool, Option, Some, None, is_some, if◌then◌else◌}
+use Rattle.std.specs.Prelude.{ℕ, nat_le, Bool, ◌&&◌, Option, Some, None, is_some, is_none, if◌then◌else◌}
 use Rattle.std.specs.FinMap.{len}
-use Rattle.nfs_model.specs.Types.{Moment, Credential, SetAttributes, CreateMode, Unchecked, Guarded, Exclusive, Status}
-use Rattle.nfs_model.specs.Types.{MadeDone, Exists, Invalid, TooBig, NoSpace}
+use Rattle.nfs_model.specs.Types.{Moment, Caller, SetAttributes, CreateMode, Unchecked, Guarded, Exclusive, Status}
+use Rattle.nfs_model.specs.Types as types
+use Rattle.nfs_model.specs.Types.{Regular, MadeDone, Exists, Invalid, TooBig, NoSpace}
 use Rattle.nfs_model.specs.Server.{handle_bytes}
 use Rattle.nfs_model.specs.Names.{is_dots}
 use Rattle.nfs_model.specs.Serial.Setattr.{has_bad_time, is_past, given}
-use Rattle.nfs_model.specs.Serial.Create.{new_attributes, is_verifier, asked_attributes, kept_verifier}
+use Rattle.nfs_model.specs.Serial.Create.{Maker, new_attributes, is_verifier, over_taken, asked_attributes, kept_verifier}
 use Rattle.nfs_model.specs.volume.Inodes.{InodeKind, RegularFile, DirectoryKind, Inode}
 use Rattle.filer_state.specs.state.Tree.{file_touch}
 use Rattle.filer_state.specs.state.Lenses.{LogicalSet}
 use Rattle.filer_state.specs.state.Changes.{LogicalAnswer, shown_inode}
 use Rattle.filer_state.specs.nodes.Making.{Making, directory_inode, node_made}
 use Rattle.filer_state.specs.changes.Named.{fails, unless_fault, HeldNaming, directory_change, HeldNode, node_under}
-use Rattle.filer_state.specs.changes.Attributes.{NodeSet, node_changed, node_fault}
+use Rattle.filer_state.specs.changes.Attributes.{NodeSet, node_changed, node_fault, taken_of}
 
 -- ---- a node made
 
@@ -27,6 +28,10 @@ making_of n made = record {
   made = made;
   moment = n.moment;
 }
+
+-- who makes it, and the directory in which it comes
+abbrev pub maker_in : Caller → HeldNaming → Maker
+maker_in caller n = record { caller = caller; directory = n.inode.attributes }
 
 -- a node made under the next fileid
 abbrev pub held_made : HeldNaming → Inode → LogicalAnswer
@@ -51,9 +56,9 @@ create_check set s =
     else None
 
 -- the file to be made: mode 0644 (octal) if none is given; its size is a hole
-abbrev pub file_inode : CreateMode → Credential → Moment → Inode
-file_inode mode credential moment = record {
-  attributes = new_attributes (asked_attributes mode) 420 credential moment;
+abbrev pub file_inode : CreateMode → Maker → Moment → Inode
+file_inode mode m moment = record {
+  attributes = new_attributes (asked_attributes mode) Regular 420 m moment;
   kind = RegularFile (given (asked_attributes mode).size 0) 0 (kept_verifier mode);
 }
 
@@ -72,26 +77,33 @@ there_set n fileid new = record {
   set = new.set;
 }
 
--- the name is there: GUARDED is EXIST; EXCLUSIVE answers a file of the same verifier; UNCHECKED sets a file
-abbrev pub create_existing : HeldNaming → CreateMode → HeldNode → InodeKind → LogicalAnswer
-create_existing n (Guarded set) child kind = fails Exists n.set
-create_existing n (Unchecked set) child (DirectoryKind parent subdirectories) = fails Exists n.set
-create_existing n (Exclusive verifier) child (DirectoryKind parent subdirectories) = fails Exists n.set
-create_existing n (Exclusive verifier) child (RegularFile size filled kept) =
-    if is_verifier kept verifier then there_shown n child else fails Exists n.set
-create_existing n (Unchecked set) child (RegularFile size filled kept) =
+-- a file that is there, set as SETATTR does without a guard
+abbrev pub over_set : HeldNaming → SetAttributes → HeldNode → LogicalAnswer
+over_set n set child =
     unless_fault (node_fault child.fileid set None child.inode n.set) n.set
     (there_set n child.fileid (node_changed child.fileid set n.moment child.inode n.set))
 
+-- the name is there: GUARDED is EXIST; EXCLUSIVE answers a file of the same verifier; UNCHECKED sets a file, where callers are checked
+-- its size alone
+abbrev pub create_existing : HeldNaming → CreateMode → Caller → HeldNode → InodeKind → LogicalAnswer
+create_existing n (Guarded set) caller child kind = fails Exists n.set
+create_existing n (Unchecked set) caller child (DirectoryKind parent subdirectories) = fails Exists n.set
+create_existing n (Exclusive verifier) caller child (DirectoryKind parent subdirectories) = fails Exists n.set
+create_existing n (Exclusive verifier) caller child (RegularFile size filled kept) =
+    if is_verifier kept verifier then there_shown n child else fails Exists n.set
+create_existing n (Unchecked set) caller child (RegularFile size filled kept) =
+    if caller.checked && is_none set.size then there_shown n child
+    else over_set n (taken_of caller (over_taken caller set) child.inode) child
+
 -- by whether the name is there
-abbrev pub create_by : HeldNaming → CreateMode → Credential → Option HeldNode → LogicalAnswer
-create_by n mode credential (Some child) = create_existing n mode child child.inode.kind
-create_by n mode credential None =
-    unless_fault (create_check (asked_attributes mode) n.set) n.set (held_made n (file_inode mode credential n.moment))
+abbrev pub create_by : HeldNaming → CreateMode → Caller → Option HeldNode → LogicalAnswer
+create_by n mode caller (Some child) = create_existing n mode caller child child.inode.kind
+create_by n mode caller None =
+    unless_fault (create_check (asked_attributes mode) n.set) n.set (held_made n (file_inode mode (maker_in caller n) n.moment))
 
 -- on a good name: EXIST for `.` and `..`
-abbrev pub held_create : CreateMode → Credential → HeldNaming → LogicalAnswer
-held_create mode credential n = if is_dots n.name then fails Exists n.set else create_by n mode credential (node_under n)
+abbrev pub held_create : CreateMode → Caller → HeldNaming → LogicalAnswer
+held_create mode caller n = if is_dots n.name then fails Exists n.set else create_by n mode caller (node_under n)
 
 -- ---- MKDIR
 
@@ -104,16 +116,16 @@ mkdir_check set s =
     else None
 
 -- the directory to be made: mode 0755 (octal) if none is given
-abbrev pub made_directory_inode : ℕ → SetAttributes → Credential → Moment → Inode
-made_directory_inode parent set credential moment =
-    record { attributes = new_attributes set 493 credential moment; kind = DirectoryKind parent 0 }
+abbrev pub made_directory_inode : ℕ → SetAttributes → Maker → Moment → Inode
+made_directory_inode parent set m moment =
+    record { attributes = new_attributes set types.DirectoryKind 493 m moment; kind = DirectoryKind parent 0 }
 
 -- by whether the name is there
-abbrev pub mkdir_by : HeldNaming → SetAttributes → Credential → Option HeldNode → LogicalAnswer
-mkdir_by n set credential (Some child) = fails Exists n.set
-mkdir_by n set credential None =
-    unless_fault (mkdir_check set n.set) n.set (held_made n (made_directory_inode n.fileid set credential n.moment))
+abbrev pub mkdir_by : HeldNaming → SetAttributes → Caller → Option HeldNode → LogicalAnswer
+mkdir_by n set caller (Some child) = fails Exists n.set
+mkdir_by n set caller None =
+    unless_fault (mkdir_check set n.set) n.set (held_made n (made_directory_inode n.fileid set (maker_in caller n) n.moment))
 
 -- on a good name: EXIST for `.` and `..`
-abbrev pub held_mkdir : SetAttributes → Credential → HeldNaming → LogicalAnswer
-held_mkdir set credential n = if is_dots n.name then fails Exists n.set else mkdir_by n set credential (node_under n)
+abbrev pub held_mkdir : SetAttributes → Caller → HeldNaming → LogicalAnswer
+held_mkdir set caller n = if is_dots n.name then fails Exists n.set else mkdir_by n set caller (node_under n)

@@ -1,17 +1,20 @@
 -- What LOOKUP, READDIR, READDIRPLUS and COMMIT answer, and ACCESS, FSINFO and PATHCONF, by what is under Logical (RFC 1813 sections
 -- 3.3.3, 3.3.16, 3.3.17, 3.3.21, 3.3.4, 3.3.19 and 3.3.20), and MNT below a root (RFC 1813 appendix I, section 5.2.1).
-use Rattle.std.specs.Prelude.{ℕ, Bool, min, not, ◌&&◌, ◌==◌, List, [], ◌∷◌, replicate, Option, Some, None, if◌then◌else◌}
+use Rattle.std.specs.Prelude.{ℕ, Bool, false, min, not, ◌&&◌, ◌==◌, List, [], ◌∷◌, replicate, Option, Some, None, if◌then◌else◌}
 use Rattle.std.specs.Option.{option_map}
 use Rattle.std.specs.FinMap.{get}
-use Rattle.nfs_model.specs.Types.{Credential, Status, Shown, Listed, ListedPlus, Answer, LookupDone, AccessDone, FsinfoDone, PathconfDone}
+use Rattle.nfs_model.specs.Types.{Caller, Status, Shown, Listed, ListedPlus, Answer, LookupDone, AccessDone, FsinfoDone, PathconfDone}
+use Rattle.nfs_model.specs.Types as types
 use Rattle.nfs_model.specs.Types.{CommitDone, MountDone, Failed, Stale, NotDirectory, NoEntry, BadCookie, Invalid}
 use Rattle.nfs_model.specs.Server.{DirectoryNode, handle_bytes, most_bytes}
 use Rattle.nfs_model.specs.Shown.{before_of}
 use Rattle.nfs_model.specs.Names.{same_name, dot, dot_dot, name_fault}
 use Rattle.nfs_model.specs.Serial.Access.{access_given}
 use Rattle.nfs_model.specs.Serial.Readdir.{all_listed, above_cookie, readdir_from}
-use Rattle.nfs_model.specs.Serial.Readdirplus.{readdirplus_from}
+use Rattle.nfs_model.specs.Serial.Readdirplus.{listed_bare, readdirplus_from}
 use Rattle.nfs_model.specs.Serial.MountBelow.{part_fault}
+use Rattle.nfs_model.specs.Serial.Rights.{may_search, protected}
+use Rattle.nfs_model.specs.Serial.Permission.{needs, refusal_of}
 use Rattle.nfs_model.specs.volume.Directories.{DirectoryValue, fileid_found}
 use Rattle.nfs_model.specs.volume.Inodes.{InodeKind, RegularFile, DirectoryKind, Inode}
 use Rattle.nfs_model.specs.volume.Logical.{LogicalValue}
@@ -108,25 +111,32 @@ abbrev pub object_told_by : (Shown → Answer) → Option Shown → Answer
 object_told_by answer None = Failed Stale 1
 object_told_by answer (Some object) = answer object
 
-abbrev pub access_answer : ℕ → ℕ → ℕ → Credential → LogicalSet → Answer
-access_answer v fileid asked who s = object_told_by (λ object. AccessDone object (access_given who asked object)) (object_in v fileid s)
+abbrev pub access_answer : ℕ → ℕ → ℕ → Caller → LogicalSet → Answer
+access_answer v fileid asked caller s =
+    object_told_by (λ object. AccessDone object (access_given caller asked object)) (object_in v fileid s)
 
 abbrev pub fsinfo_answer : ℕ → ℕ → LogicalSet → Answer
 fsinfo_answer v fileid s = object_told_by (λ object. FsinfoDone object s.own.largest) (object_in v fileid s)
 
-abbrev pub pathconf_answer : ℕ → ℕ → LogicalSet → Answer
-pathconf_answer v fileid s = object_told_by PathconfDone (object_in v fileid s)
+abbrev pub pathconf_answer : ℕ → ℕ → Caller → LogicalSet → Answer
+pathconf_answer v fileid caller s = object_told_by (λ object. PathconfDone object caller.checked) (object_in v fileid s)
 
 -- ---- READDIRPLUS
 
 -- what is told of an entry: with the attributes and the handle of its node
 abbrev pub entry_told : ℕ → LogicalSet → Listed → ListedPlus
-entry_told v s e = record { entry = e; attributes = object_in v e.fileid s; handle = handle_bytes v e.fileid }
+entry_told v s e = record { entry = e; attributes = object_in v e.fileid s; handle = Some (handle_bytes v e.fileid) }
 
-abbrev pub readdirplus_answer : ℕ → ℕ → ℕ → List ℕ → ℕ → ℕ → LogicalSet → Answer
-readdirplus_answer v fileid cookie verifier names_count count s = on_directory_inode (get s.own.inodes.inodes fileid) (λ inode parent.
+-- what a caller is told of an entry: more than its name where it may search the directory
+abbrev pub entry_for : Caller → ℕ → LogicalSet → Inode → Listed → ListedPlus
+entry_for caller v s inode e =
+    if caller.checked && not (may_search caller.credential (protected types.DirectoryKind inode.attributes)) then listed_bare e
+    else entry_told v s e
+
+abbrev pub readdirplus_answer : ℕ → ℕ → ℕ → List ℕ → ℕ → ℕ → Caller → LogicalSet → Answer
+readdirplus_answer v fileid cookie verifier names_count count caller s = on_directory_inode (get s.own.inodes.inodes fileid) (λ inode parent.
     if is_bad_cookie cookie verifier then Failed BadCookie 1
-    else answer_of 1 (readdirplus_from (min names_count most_bytes) (min count most_bytes) (entry_told v s) (shown_inode v fileid inode None)
+    else answer_of 1 (readdirplus_from (min names_count most_bytes) (min count most_bytes) (entry_for caller v s inode) (shown_inode v fileid inode None)
     (above_cookie cookie (all_listed fileid (directory_node inode parent (entries_of s.own fileid))))))
 
 -- ---- MNT below a root
@@ -150,12 +160,22 @@ abbrev pub on_fileid : Option ℕ → (ℕ → Answer) → Answer
 on_fileid None answer = Failed NoEntry 0
 on_fileid (Some fileid) answer = answer fileid
 
+-- ACCES where a caller may not search a directory
+abbrev pub search_fault : Caller → Inode → Option Status
+search_fault caller inode =
+    refusal_of caller false (needs (may_search caller.credential (protected types.DirectoryKind inode.attributes)))
+
+-- an answer in a directory that the caller may search
+abbrev pub in_searched : Caller → Option Inode → Answer → Answer
+in_searched caller None answer = Failed Stale 0
+in_searched caller (Some inode) answer = by_directory_kind inode.kind (unless_part_fault (search_fault caller inode) answer)
+
 -- an answer on what a part is in a directory
-abbrev pub on_part : LogicalSet → ℕ → List ℕ → (ℕ → Answer) → Answer
-on_part s fileid part answer =
-    in_directory (get s.own.inodes.inodes fileid)
+abbrev pub on_part : Caller → LogicalSet → ℕ → List ℕ → (ℕ → Answer) → Answer
+on_part caller s fileid part answer =
+    in_searched caller (get s.own.inodes.inodes fileid)
     (unless_part_fault (part_fault part) (on_fileid (fileid_found (entries_of s.own fileid) part) answer))
 
-abbrev pub mount_answer : ℕ → List (List ℕ) → LogicalSet → ℕ → Answer
-mount_answer v [] s fileid = in_directory (get s.own.inodes.inodes fileid) (MountDone (handle_bytes v fileid))
-mount_answer v (part ∷ parts) s fileid = on_part s fileid part (mount_answer v parts s)
+abbrev pub mount_answer : ℕ → List (List ℕ) → Caller → LogicalSet → ℕ → Answer
+mount_answer v [] caller s fileid = in_directory (get s.own.inodes.inodes fileid) (MountDone (handle_bytes v fileid))
+mount_answer v (part ∷ parts) caller s fileid = on_part caller s fileid part (mount_answer v parts caller s)

@@ -1,7 +1,7 @@
 -- What calls on names come to, by what is under Logical (RFC 1813 sections 3.3.3, 3.3.4, 3.3.16, 3.3.17, 3.3.19, 3.3.20 and 3.3.21; MNT
 -- below a root, its appendix I).
 use Rattle.std.specs.Prelude.{◌≡◌, ℕ, Bool, false, List, []}
-use Rattle.nfs_model.specs.Types.{Moment, Credential, Listed, ListedPlus, Shown, Lookup, CheckAccess, Readdir, Readdirplus, Fsinfo, Pathconf, Commit}
+use Rattle.nfs_model.specs.Types.{Moment, Caller, Listed, ListedPlus, Shown, Lookup, CheckAccess, Readdir, Readdirplus, Fsinfo, Pathconf, Commit}
 use Rattle.nfs_model.specs.Types.{MountBelow, ReaddirDone, ReaddirplusDone, Success}
 use Rattle.nfs_model.specs.Tree.{Affinity}
 use Rattle.nfs_model.specs.Locate.{on_name}
@@ -18,46 +18,48 @@ use Rattle.filer_state.specs.state.Jobs.{Replied}
 use Rattle.filer_state.specs.state.Lenses.{LogicalSet, logical_lens}
 use Rattle.filer_state.specs.state.Promises.{RightOnVolume}
 use Rattle.nfs_model.specs.Work.{Starved}
-use Rattle.filer_state.specs.state.Calls.{VolumeCall, ServesOn, WorksOn}
+use Rattle.filer_state.specs.state.Calls.{VolumeCall, ServesOn, WorksOn, unasked}
 use Rattle.filer_state.specs.names.Answers.{lookup_answer, readdir_answer, readdirplus_answer, commit_answer, access_answer, fsinfo_answer, pathconf_answer}
 use Rattle.filer_state.specs.names.Answers.{mount_answer}
 
 abbrev pub lookup_call : List ℕ → Affinity → ℕ → List ℕ → Moment → VolumeCall
 lookup_call handle node fileid name moment =
-    record { call = Lookup handle name; node = node; fileid = fileid; run = λ volume. on_name name moment lookup volume fileid }
+    record { call = Lookup handle name; caller = unasked; node = node; fileid = fileid; run = λ volume. on_name name moment lookup volume fileid }
 
 abbrev pub readdir_call : List ℕ → Affinity → ℕ → ℕ → List ℕ → ℕ → VolumeCall
 readdir_call handle node fileid cookie verifier count = record {
   call = Readdir handle cookie verifier count;
+  caller = unasked;
   node = node;
   fileid = fileid;
   run = λ volume. readdir cookie verifier count volume fileid;
 }
 
-abbrev pub readdirplus_call : List ℕ → Affinity → ℕ → ℕ → List ℕ → ℕ → ℕ → VolumeCall
-readdirplus_call handle node fileid cookie verifier names_count count = record {
+abbrev pub readdirplus_call : List ℕ → Affinity → ℕ → ℕ → List ℕ → ℕ → ℕ → Caller → VolumeCall
+readdirplus_call handle node fileid cookie verifier names_count count caller = record {
   call = Readdirplus handle cookie verifier names_count count;
+  caller = unasked;
   node = node;
   fileid = fileid;
-  run = λ volume. readdirplus cookie verifier names_count count volume fileid;
+  run = λ volume. readdirplus cookie verifier names_count count caller volume fileid;
 }
 
 abbrev pub commit_call : List ℕ → Affinity → ℕ → VolumeCall
-commit_call handle node fileid = record { call = Commit handle; node = node; fileid = fileid; run = λ volume. commit volume fileid }
+commit_call handle node fileid = record { call = Commit handle; caller = unasked; node = node; fileid = fileid; run = λ volume. commit volume fileid }
 
-abbrev pub access_call : List ℕ → Affinity → ℕ → ℕ → Credential → VolumeCall
-access_call handle node fileid asked who =
-    record { call = CheckAccess handle asked; node = node; fileid = fileid; run = λ volume. access asked who volume fileid }
+abbrev pub access_call : List ℕ → Affinity → ℕ → ℕ → Caller → VolumeCall
+access_call handle node fileid asked caller =
+    record { call = CheckAccess handle asked; caller = unasked; node = node; fileid = fileid; run = λ volume. access asked caller volume fileid }
 
 abbrev pub fsinfo_call : List ℕ → Affinity → ℕ → VolumeCall
-fsinfo_call handle node fileid = record { call = Fsinfo handle; node = node; fileid = fileid; run = λ volume. fsinfo volume fileid }
+fsinfo_call handle node fileid = record { call = Fsinfo handle; caller = unasked; node = node; fileid = fileid; run = λ volume. fsinfo volume fileid }
 
-abbrev pub pathconf_call : List ℕ → Affinity → ℕ → VolumeCall
-pathconf_call handle node fileid = record { call = Pathconf handle; node = node; fileid = fileid; run = λ volume. pathconf volume fileid }
+abbrev pub pathconf_call : List ℕ → Affinity → ℕ → Caller → VolumeCall
+pathconf_call handle node fileid caller = record { call = Pathconf handle; caller = unasked; node = node; fileid = fileid; run = λ volume. pathconf caller volume fileid }
 
-abbrev pub mount_call : List ℕ → Affinity → ℕ → List ℕ → VolumeCall
-mount_call root node fileid path =
-    record { call = MountBelow root path; node = node; fileid = fileid; run = λ volume. mount_below (parts_below path) volume fileid }
+abbrev pub mount_call : List ℕ → Affinity → ℕ → List ℕ → Caller → VolumeCall
+mount_call root node fileid path caller =
+    record { call = MountBelow root path; caller = unasked; node = node; fileid = fileid; run = λ volume. mount_below (parts_below path) caller volume fileid }
 
 -- Whatever the rest of the volume is: the answer told by inodes, entries and touches is the serial server's, and nothing changes.
 abbrev pub LookupIsRight : Type 0
@@ -77,15 +79,16 @@ ReaddirMayStarve = (v fileid : ℕ) (handle : List ℕ) (node : Affinity) (cooki
     → RightOnVolume v logical_lens (WorksOn (readdir_call handle node fileid cookie verifier count)) [] [] set Starved set
 
 abbrev pub ReaddirplusIsRight : Type 0
-ReaddirplusIsRight = (v fileid : ℕ) (handle : List ℕ) (node : Affinity) (cookie : ℕ) (verifier : List ℕ) (names_count count : ℕ) (set : LogicalSet)
-    → RightOnVolume v logical_lens (ServesOn (readdirplus_call handle node fileid cookie verifier names_count count) false) [] [] set
-    (Replied (Success (readdirplus_answer v fileid cookie verifier names_count count set))) set
+ReaddirplusIsRight = (v fileid : ℕ) (handle : List ℕ) (node : Affinity) (cookie : ℕ) (verifier : List ℕ) (names_count count : ℕ) (caller : Caller)
+    (set : LogicalSet)
+    → RightOnVolume v logical_lens (ServesOn (readdirplus_call handle node fileid cookie verifier names_count count caller) false) [] [] set
+    (Replied (Success (readdirplus_answer v fileid cookie verifier names_count count caller set))) set
 
 abbrev pub ReaddirplusMayStarve : Type 0
-ReaddirplusMayStarve = (v fileid : ℕ) (handle : List ℕ) (node : Affinity) (cookie : ℕ) (verifier : List ℕ) (names_count count : ℕ) (set : LogicalSet)
-    (directory : Shown) (page : List ListedPlus) (eof : Bool)
-    → readdirplus_answer v fileid cookie verifier names_count count set ≡ ReaddirplusDone directory page eof
-    → RightOnVolume v logical_lens (WorksOn (readdirplus_call handle node fileid cookie verifier names_count count)) [] [] set Starved set
+ReaddirplusMayStarve = (v fileid : ℕ) (handle : List ℕ) (node : Affinity) (cookie : ℕ) (verifier : List ℕ) (names_count count : ℕ) (caller : Caller)
+    (set : LogicalSet) (directory : Shown) (page : List ListedPlus) (eof : Bool)
+    → readdirplus_answer v fileid cookie verifier names_count count caller set ≡ ReaddirplusDone directory page eof
+    → RightOnVolume v logical_lens (WorksOn (readdirplus_call handle node fileid cookie verifier names_count count caller)) [] [] set Starved set
 
 abbrev pub CommitIsRight : Type 0
 CommitIsRight = (v fileid : ℕ) (handle : List ℕ) (node : Affinity) (set : LogicalSet)
@@ -93,9 +96,9 @@ CommitIsRight = (v fileid : ℕ) (handle : List ℕ) (node : Affinity) (set : Lo
     (Replied (Success (commit_answer v fileid set))) set
 
 abbrev pub AccessIsRight : Type 0
-AccessIsRight = (v fileid : ℕ) (handle : List ℕ) (node : Affinity) (asked : ℕ) (who : Credential) (set : LogicalSet)
-    → RightOnVolume v logical_lens (ServesOn (access_call handle node fileid asked who) false) [] [] set
-    (Replied (Success (access_answer v fileid asked who set))) set
+AccessIsRight = (v fileid : ℕ) (handle : List ℕ) (node : Affinity) (asked : ℕ) (caller : Caller) (set : LogicalSet)
+    → RightOnVolume v logical_lens (ServesOn (access_call handle node fileid asked caller) false) [] [] set
+    (Replied (Success (access_answer v fileid asked caller set))) set
 
 abbrev pub FsinfoIsRight : Type 0
 FsinfoIsRight = (v fileid : ℕ) (handle : List ℕ) (node : Affinity) (set : LogicalSet)
@@ -103,11 +106,11 @@ FsinfoIsRight = (v fileid : ℕ) (handle : List ℕ) (node : Affinity) (set : Lo
     (Replied (Success (fsinfo_answer v fileid set))) set
 
 abbrev pub PathconfIsRight : Type 0
-PathconfIsRight = (v fileid : ℕ) (handle : List ℕ) (node : Affinity) (set : LogicalSet)
-    → RightOnVolume v logical_lens (ServesOn (pathconf_call handle node fileid) false) [] [] set
-    (Replied (Success (pathconf_answer v fileid set))) set
+PathconfIsRight = (v fileid : ℕ) (handle : List ℕ) (node : Affinity) (caller : Caller) (set : LogicalSet)
+    → RightOnVolume v logical_lens (ServesOn (pathconf_call handle node fileid caller) false) [] [] set
+    (Replied (Success (pathconf_answer v fileid caller set))) set
 
 abbrev pub MountIsRight : Type 0
-MountIsRight = (v fileid : ℕ) (root path : List ℕ) (node : Affinity) (set : LogicalSet)
-    → RightOnVolume v logical_lens (ServesOn (mount_call root node fileid path) false) [] [] set
-    (Replied (Success (mount_answer v (parts_below path) set fileid))) set
+MountIsRight = (v fileid : ℕ) (root path : List ℕ) (node : Affinity) (caller : Caller) (set : LogicalSet)
+    → RightOnVolume v logical_lens (ServesOn (mount_call root node fileid path caller) false) [] [] set
+    (Replied (Success (mount_answer v (parts_below path) caller set fileid))) set

@@ -1,7 +1,8 @@
 -- What a node made under a name comes to, by what is under Logical (CREATE and MKDIR, RFC 1813 sections 3.3.8 and 3.3.9).
 use Rattle.std.specs.Prelude.{ℕ, ◌+◌, List, map}
 use Rattle.std.specs.FinMap.{insert}
-use Rattle.nfs_model.specs.Types.{Moment}
+use Rattle.nfs_model.specs.Types.{Moment, Ownership}
+use Rattle.nfs_model.specs.Serial.Rights.{ownership_of}
 use Rattle.nfs_model.specs.volume.Directories.{DirectoryValue, empty_directory, added}
 use Rattle.nfs_model.specs.volume.Inodes.{InodeKind, RegularFile, DirectoryKind, Inode, InodesValue, inode_created, inode_set}
 use Rattle.nfs_model.specs.volume.Stripes.{StripeValue, file_card_set, directory_card_set}
@@ -49,9 +50,9 @@ entries_made m fileid directories =
     insert (directories_made m.made.kind fileid directories) m.directory (added m.name fileid m.entries)
 
 -- the card of a new node, in each stripe
-abbrev pub card_made : InodeKind → ℕ → StripeValue → StripeValue
-card_made (RegularFile size filled verifier) fileid s = file_card_set fileid size s
-card_made (DirectoryKind parent subdirectories) fileid s = directory_card_set fileid s
+abbrev pub card_made : Ownership → InodeKind → ℕ → StripeValue → StripeValue
+card_made owner (RegularFile size filled verifier) fileid s = file_card_set fileid size owner s
+card_made owner (DirectoryKind parent subdirectories) fileid s = directory_card_set fileid s
 
 -- what is under Logical after it: one more inode, under the next fileid, with its cards, and one more entry
 abbrev pub node_made : Making → LogicalSet → LogicalSet
@@ -60,5 +61,5 @@ node_made m set = record {
     inodes = inodes_made m set.own.inodes;
     directories = entries_made m set.own.inodes.next set.own.directories;
   };
-  stripes = map (card_made m.made.kind set.own.inodes.next) set.stripes;
+  stripes = map (card_made (ownership_of m.made.attributes) m.made.kind set.own.inodes.next) set.stripes;
 }

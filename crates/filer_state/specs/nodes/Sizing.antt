@@ -1,6 +1,8 @@
 -- What a size set for a file comes to, by what is under Logical (SETATTR, RFC 1813 section 3.3.2): cut, or grown by a hole.
 use Rattle.std.specs.Prelude.{ℕ, ◌-◌, List, [], ◌∷◌, ◌++◌, map, length}
+use Rattle.nfs_model.specs.Types.{Ownership}
 use Rattle.nfs_model.specs.Server.{Attributes}
+use Rattle.nfs_model.specs.Serial.Rights.{ownership_of}
 use Rattle.nfs_model.specs.volume.Inodes.{InodeKind, RegularFile, DirectoryKind, Inode, inode_set}
 use Rattle.nfs_model.specs.volume.Stripes.{StripeValue, touch_taken, file_card_set, cut, numbers_freed}
 use Rattle.nfs_model.specs.volume.Ranges.{dead_marked}
@@ -13,9 +15,9 @@ pub record Sizing : Type 0 where
   pub attributes : Attributes  -- after
   pub size : ℕ  -- after
 
--- a stripe after it: the touch is taken, the card shows the size, the blocks are cut
-abbrev pub stripe_sized : ℕ → ℕ → StripeValue → StripeValue
-stripe_sized fileid size s = file_card_set fileid size (cut fileid size (touch_taken fileid s))
+-- a stripe after it: the touch is taken, the card shows the size and the owner, the blocks are cut
+abbrev pub stripe_sized : ℕ → ℕ → Ownership → StripeValue → StripeValue
+stripe_sized fileid size owner s = file_card_set fileid size owner (cut fileid size (touch_taken fileid s))
 
 -- the numbers of the blocks that leave the file, stripe by stripe
 abbrev pub all_freed : ℕ → ℕ → List StripeValue → List ℕ
@@ -38,5 +40,5 @@ file_sized m set = record {
     inodes = inode_set m.fileid (inode_sized m (length (all_freed m.fileid m.size set.stripes))) set.own.inodes;
     dead = dead_marked (all_freed m.fileid m.size set.stripes) set.own.dead;
   };
-  stripes = map (stripe_sized m.fileid m.size) set.stripes;
+  stripes = map (stripe_sized m.fileid m.size (ownership_of m.attributes)) set.stripes;
 }

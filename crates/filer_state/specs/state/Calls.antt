@@ -1,6 +1,6 @@
 -- What a call on a handle comes to on the one volume that the handle names: what a handler promises. That the whole server does the
 -- same follows.
-use Rattle.std.specs.Prelude.{◌≡◌, ◌⊎◌, ℕ, ◌+◌, ◌-◌, ◌/◌, Bool, true, IsTrue, List, length, Option, Some, None, slice_get}
+use Rattle.std.specs.Prelude.{◌≡◌, ◌⊎◌, ℕ, ◌+◌, ◌-◌, ◌/◌, Bool, true, false, IsTrue, List, [], length, Option, Some, None, slice_get}
 use Rattle.nfs_model.specs.Types.{Call, Write, Caller, Moment, Ask, Answer, Failed, Success, SystemError}
 use Rattle.nfs_model.specs.Tree.{Layout, Affinity}
 use Rattle.nfs_model.specs.Server.{Server, VolumeState, handle_of, block_size}
@@ -25,16 +25,23 @@ use Rattle.filer_state.specs.state.Deeds.{IsHomeOrAbove, outcome_of}
 abbrev pub handle_in : Call → List ℕ
 handle_in call = handle_on (route call)
 
--- what is asked of a volume under a node: the call, the fileid that its handle names there, and the serial server's procedure for it
+-- a caller of whom nothing is asked
+abbrev pub unasked : Caller
+unasked = record { credential = record { uid = 0; gid = 0; gids = [] }; xid = 0; peer = 0; checked = false; reads_only = false }
+
+-- what is asked of a volume under a node: the call and its caller, the fileid that its handle names there, and the serial server's
+-- procedure for it
 pub record VolumeCall : Type 0 where
   pub call : Call
+  pub caller : Caller
   pub node : Affinity
   pub fileid : ℕ
   pub run : VolumeState → Effect
 
--- What has to be known of such a call on the volume of a number, else its words say nothing: its handle names the fileid there, its
--- node is the volume's and at its home or above it, and the serial server serves it by the procedure.
+-- What has to be known of such a call on the volume of a number, else its words say nothing: it is the caller's, its handle names the
+-- fileid there, its node is the volume's and at its home or above it, and the serial server serves it by the procedure.
 pub record IsCallOn (layout : Layout) (v : ℕ) (c : VolumeCall) (caller : Caller) (moment : Moment) : Type 0 where
+  pub called : c.caller ≡ caller
   pub good : handle_of (length layout.volumes) (handle_in c.call) ≡ Some (record { volume = v; fileid = c.fileid })
   pub under : volume_above c.node ≡ Some v
   pub tried : IsHomeOrAbove layout (Ask c.call caller) c.node
@@ -69,7 +76,7 @@ answer_on c p = answer_of (absent_parts c.call) (c.run (volume_of p))
 -- where a WRITE to what is located moves; no other call does
 abbrev pub move_of_located : Call → VolumeCall → VolumeContents → Option Affinity
 move_of_located (Write handle offset count written) c p =
-    move_if (Some (parts_of p)) c.node (ready_at (Some (located_on c p)) offset count (length written))
+    move_if (Some (parts_of p)) c.node (ready_at (Some (located_on c p)) c.caller offset count (length written))
 move_of_located call c p = None
 
 abbrev pub move_on : VolumeCall → VolumeContents → Option Affinity

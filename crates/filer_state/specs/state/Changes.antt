@@ -1,15 +1,15 @@
 -- What calls show and change of what is under Logical, beyond the words of each value (RFC 1813 section 2.6).
-use Rattle.std.specs.Prelude.{ℕ, ◌+◌, ◌*◌, List, map, Option, Some, None, if◌then◌else◌}
+use Rattle.std.specs.Prelude.{ℕ, ◌+◌, ◌*◌, List, map, Option, Some, None}
 use Rattle.std.specs.FinMap.{get}
-use Rattle.nfs_model.specs.Types.{Moment, SetAttributes, Status, Shown, Regular, DirectoryKind, Answer, GetattrDone}
-use Rattle.nfs_model.specs.Types.{SetattrDone, Failed, Stale, NotSynchronous, Invalid}
+use Rattle.nfs_model.specs.Types.{Moment, Ownership, SetAttributes, Shown, Regular, DirectoryKind, Answer, GetattrDone}
+use Rattle.nfs_model.specs.Types.{Failed, Stale}
 use Rattle.nfs_model.specs.Server.{Attributes, block_size}
-use Rattle.nfs_model.specs.Shown.{effective_attributes, before_of, directory_size}
-use Rattle.nfs_model.specs.Serial.Setattr.{is_stale_guard, has_bad_time, set_attributes}
+use Rattle.nfs_model.specs.Shown.{effective_attributes, directory_size}
+use Rattle.nfs_model.specs.Serial.Rights.{ownership_of}
+use Rattle.nfs_model.specs.Serial.Setattr.{set_attributes}
 use Rattle.nfs_model.specs.volume.Inodes as inodes
 use Rattle.nfs_model.specs.volume.Inodes.{InodeKind, RegularFile, Inode, inode_set}
-use Rattle.nfs_model.specs.volume.Stripes.{StripeValue, touch_taken}
-use Rattle.filer_state.specs.state.Tree.{file_touch}
+use Rattle.nfs_model.specs.volume.Stripes.{StripeValue, touch_taken, file_card_owned}
 use Rattle.filer_state.specs.state.Lenses.{LogicalSet}
 
 -- fattr3 of a node by its inode and its latest touch
@@ -55,27 +55,49 @@ abbrev pub attributes_now : Option Moment → Attributes → InodeKind → Attri
 attributes_now touch a (RegularFile size filled verifier) = effective_attributes touch a
 attributes_now touch a (inodes.DirectoryKind parent subdirectories) = a
 
+-- a node of a stripe settles, and its card has an owner
+abbrev pub stripe_settled : ℕ → Ownership → StripeValue → StripeValue
+stripe_settled fileid owner s = file_card_owned fileid owner (touch_taken fileid s)
+
+abbrev pub stripes_settled : ℕ → Ownership → List StripeValue → List StripeValue
+stripes_settled fileid owner stripes = map (stripe_settled fileid owner) stripes
+
 -- a node settles and has an inode set
 abbrev pub node_set : ℕ → Inode → LogicalSet → LogicalSet
 node_set fileid inode set = record {
   own = record set.own { inodes = inode_set fileid inode set.own.inodes };
-  stripes = touches_taken fileid set.stripes;
+  stripes = stripes_settled fileid (ownership_of inode.attributes) set.stripes;
 }
+
+-- a file's cards have an owner, in all stripes; their touches stay
+abbrev pub stripes_owned : ℕ → Ownership → List StripeValue → List StripeValue
+stripes_owned fileid owner stripes = map (file_card_owned fileid owner) stripes
+
+-- an inode set, with its owner on the cards
+abbrev pub node_owned : ℕ → Inode → LogicalSet → LogicalSet
+node_owned fileid inode set = record {
+  own = record set.own { inodes = inode_set fileid inode set.own.inodes };
+  stripes = stripes_owned fileid (ownership_of inode.attributes) set.stripes;
+}
+
+-- an inode with another mode; its times stay
+abbrev pub with_mode : ℕ → Inode → Inode
+with_mode mode inode = record inode { attributes = record inode.attributes { mode = mode } }
+
+-- another mode of a node, if it is there
+abbrev pub mode_put_on : Option Inode → ℕ → ℕ → LogicalSet → LogicalSet
+mode_put_on None fileid mode set = set
+mode_put_on (Some inode) fileid mode set = node_owned fileid (with_mode mode inode) set
+
+abbrev pub mode_put : ℕ → ℕ → LogicalSet → LogicalSet
+mode_put fileid mode set = mode_put_on (get set.own.inodes.inodes fileid) fileid mode set
 
 -- what GETATTR answers by them (RFC 1813 section 3.3.1)
 abbrev pub getattr_answer : ℕ → ℕ → Option Inode → Option Moment → Answer
 getattr_answer volume fileid None touch = Failed Stale 0
 getattr_answer volume fileid (Some inode) touch = GetattrDone (shown_inode volume fileid inode touch)
 
--- ---- SETATTR without a size (RFC 1813 section 3.3.2)
-
--- attributes but a size
-abbrev pub without_size : SetAttributes → SetAttributes
-without_size set = record set { size = None }
-
--- the first check that fails, by the ctime that holds
-abbrev pub setattr_check : SetAttributes → Option Moment → Moment → Option Status
-setattr_check set guard ctime = if is_stale_guard guard ctime then Some NotSynchronous else if has_bad_time set then Some Invalid else None
+-- ---- SETATTR (RFC 1813 section 3.3.2)
 
 -- the inode with the attributes set, from those that hold
 abbrev pub inode_after : SetAttributes → Moment → Option Moment → Inode → Inode
@@ -85,21 +107,3 @@ inode_after set moment touch inode = record inode { attributes = set_attributes 
 pub record LogicalAnswer : Type 0 where
   pub answer : Answer
   pub set : LogicalSet
-
--- a failure has two absent parts, the attributes before and after
-abbrev pub setattr_checked : ℕ → ℕ → Option Status → Inode → Inode → Option Moment → LogicalSet → LogicalAnswer
-setattr_checked volume fileid (Some status) old new touch s = record { answer = Failed status 2; set = s }
-setattr_checked volume fileid None old new touch s = record {
-  answer = SetattrDone (record { before = before_of (shown_inode volume fileid old touch); after = shown_inode volume fileid new None });
-  set = node_set fileid new s;
-}
-
-abbrev pub setattr_inode : ℕ → ℕ → SetAttributes → Option Moment → Moment → Option Inode → Option Moment → LogicalSet → LogicalAnswer
-setattr_inode volume fileid set guard moment None touch s = record { answer = Failed Stale 2; set = s }
-setattr_inode volume fileid set guard moment (Some inode) touch s =
-    setattr_checked volume fileid (setattr_check set guard (attributes_now touch inode.attributes inode.kind).ctime) inode
-    (inode_after set moment touch inode) touch s
-
-abbrev pub setattr_logical : ℕ → ℕ → SetAttributes → Option Moment → Moment → LogicalSet → LogicalAnswer
-setattr_logical volume fileid set guard moment s =
-    setattr_inode volume fileid set guard moment (get s.own.inodes.inodes fileid) (file_touch s.stripes fileid) s

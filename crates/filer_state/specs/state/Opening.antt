@@ -3,11 +3,11 @@
 use Rattle.std.specs.Prelude.{◌≡◌, ℕ, nat_lt, List, [], ◌∷◌, Option, Some, None, slice_get, slice_index_or, replicate, if◌then◌else◌}
 use Rattle.std.specs.FinMap.{from_sorted}
 use Rattle.std.specs.FinSet as sets
-use Rattle.nfs_model.specs.Types.{Moment}
+use Rattle.nfs_model.specs.Types.{Moment, Ownership}
 use Rattle.nfs_model.specs.Tree as trees
 use Rattle.nfs_model.specs.Tree.{Layout, VolumeLayout, Affinity, stripes_of, range_blocks_of}
 use Rattle.affinity.specs.Tree.{IsNode}
-use Rattle.affinity.specs.Largest.{largest_of, inodes_of, steps_of, begun_of, remembered_of}
+use Rattle.affinity.specs.Largest.{largest_of, inodes_of, steps_of, begun_of, root_of, remembered_of}
 use Rattle.parcels.specs.declared.family.Parcel.TheVariants.{Range, Vbn, Stripe, Logical, Volume, Aggregate, Serial}
 use Rattle.nfs_model.specs.volume.Directories.{empty_directory}
 use Rattle.nfs_model.specs.volume.Inodes.{opening_inodes}
@@ -18,16 +18,16 @@ use Rattle.filer_state.specs.state.Parcels.{FilerParcel}
 use Rattle.filer_state.specs.state.Contents.{at}
 use Rattle.filer_state.specs.state.Names.{root}
 
--- of a volume of this many stripes, with this largest size, this many inodes and steps, begun at a moment, ranges of this many
--- blocks, and this many places for replies that are remembered
-abbrev pub opening_logical : List ℕ → (stripes largest most_inodes most_steps : ℕ) → Moment → (size remembered : ℕ) → LogicalValue
-opening_logical verifier stripes largest most_inodes most_steps begun size remembered = record {
+-- of a volume of this many stripes, with this largest size, this many inodes and steps, a root of an owner, begun at a moment, ranges
+-- of this many blocks, and this many places for replies that are remembered
+abbrev pub opening_logical : List ℕ → (stripes largest most_inodes most_steps : ℕ) → Ownership → Moment → (size remembered : ℕ) → LogicalValue
+opening_logical verifier stripes largest most_inodes most_steps owner begun size remembered = record {
   verifier = verifier;
   stripes = stripes;
   largest = largest;
   most_inodes = most_inodes;
   most_steps = most_steps;
-  inodes = opening_inodes begun;
+  inodes = opening_inodes owner begun;
   directories = from_sorted ((root, empty_directory) ∷ []);
   stock = sets.empty;
   dead = no_dead size;
@@ -53,7 +53,7 @@ opening_parcel layout verifier (trees.Aggregate a) = Aggregate (slice_index_or l
 opening_parcel layout verifier (trees.Volume v) = Volume tt
 opening_parcel layout verifier (trees.Logical v) =
     Logical (opening_logical verifier (stripes_of layout v) (largest_of layout v) (inodes_of layout v) (steps_of layout v)
-    (begun_of layout v) (range_blocks_of layout v) (remembered_of layout v))
+    (root_of layout v) (begun_of layout v) (range_blocks_of layout v) (remembered_of layout v))
 opening_parcel layout verifier (trees.Stripe v i) = Stripe (opening_stripe verifier (stripes_of layout v) (largest_of layout v))
 opening_parcel layout verifier (trees.Vbn v) = Vbn tt
 opening_parcel layout verifier (trees.Range v r) = Range (opening_range (range_blocks_of layout v) (ranges_in (slice_get layout.volumes v)) r)

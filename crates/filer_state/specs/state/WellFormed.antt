@@ -3,11 +3,13 @@ use Rattle.std.specs.Prelude.{◌≡◌, ℕ, ◌+◌, ◌*◌, ◌<◌, ◌≤�
 use Rattle.std.specs.Option.{option_map}
 use Rattle.std.specs.FinMap.{get, len}
 use Rattle.std.specs.FinSet as sets
-use Rattle.nfs_model.specs.Server.{block_size}
+use Rattle.nfs_model.specs.Types.{Ownership}
+use Rattle.nfs_model.specs.Server.{Attributes, block_size}
+use Rattle.nfs_model.specs.Serial.Rights.{ownership_of}
 use Rattle.nfs_model.specs.Parts.{most_ranges}
 use Rattle.affinity.specs.Largest.{mebibyte}
 use Rattle.depot_rule.specs.Sums.{total}
-use Rattle.nfs_model.specs.volume.Inodes.{Inode, filled_blocks, inodes_of_a_volume}
+use Rattle.nfs_model.specs.volume.Inodes.{InodeKind, RegularFile, DirectoryKind, Inode, filled_blocks, inodes_of_a_volume}
 use Rattle.nfs_model.specs.volume.Stripes.{Card, OfFile, OfDirectory, Block, StripeValue, IsStripe, stripe_of, byte_of}
 use Rattle.nfs_model.specs.volume.Ranges.{RangeValue, IsRange, IsRangeSize}
 use Rattle.nfs_model.specs.volume.Logical.{LogicalValue}
@@ -20,8 +22,21 @@ use Rattle.filer_state.specs.state.Names.{size_in, size_of, IsLogical}
 
 -- the size that a card shows of a file; of a directory none
 abbrev pub size_shown : Card → Option ℕ
-size_shown (OfFile size touch) = Some size
+size_shown (OfFile size touch owner) = Some size
 size_shown OfDirectory = None
+
+-- the owner that a card shows of a file; of a directory none
+abbrev pub owner_shown : Card → Option Ownership
+owner_shown (OfFile size touch owner) = Some owner
+owner_shown OfDirectory = None
+
+-- the owner of a file, by its inode; of a directory none
+abbrev pub owner_by : Attributes → InodeKind → Option Ownership
+owner_by a (RegularFile size filled verifier) = Some (ownership_of a)
+owner_by a (DirectoryKind parent subdirectories) = None
+
+abbrev pub owner_in : Inode → Option Ownership
+owner_in inode = owner_by inode.attributes inode.kind
 
 -- A block of a file of this size lies in the stripe of its span, starts before the size, and has zeros past it.
 pub record BlockFits (stripes i fileid block size : ℕ) (b : Block) : Type 0 where
@@ -37,6 +52,7 @@ pub record StripeFits (l : LogicalValue) (i : ℕ) (s : StripeValue) : Type 0 wh
   pub largest : s.largest ≡ l.largest
   pub cards : (fileid : ℕ)
       → option_map size_shown (get s.cards fileid) ≡ option_map (λ (inode : Inode). size_in inode.kind) (get l.inodes.inodes fileid)
+  pub owners : (fileid : ℕ) → option_map owner_shown (get s.cards fileid) ≡ option_map owner_in (get l.inodes.inodes fileid)
   pub long : IsStripe s
   pub blocks : (fileid block : ℕ) (b : Block) → get s.blocks (fileid, block) ≡ Some b
       → (size : ℕ) × (size_of (get l.inodes.inodes fileid) ≡ Some size) × BlockFits l.stripes i fileid block size b

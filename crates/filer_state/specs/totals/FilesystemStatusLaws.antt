@@ -5,12 +5,12 @@ use Rattle.nfs_model.specs.Tree.{Affinity, Volume}
 use Rattle.nfs_model.specs.Serial.Fsstat.{fsstat}
 use Rattle.nfs_model.specs.Work.{Replied}
 use Rattle.filer_state.specs.state.Lenses.{VolumeSet, volume_lens}
-use Rattle.filer_state.specs.state.Calls.{VolumeCall}
+use Rattle.filer_state.specs.state.Calls.{VolumeCall, unasked}
 use Rattle.filer_state.specs.state.Running.{RunsOn}
 use Rattle.filer_state.specs.totals.FilesystemStatus.{filesystem_status_answer}
 
 abbrev pub fsstat_call : List ℕ → Affinity → ℕ → VolumeCall
-fsstat_call handle node fileid = record { call = Fsstat handle; node = node; fileid = fileid; run = λ volume. fsstat volume fileid }
+fsstat_call handle node fileid = record { call = Fsstat handle; caller = unasked; node = node; fileid = fileid; run = λ volume. fsstat volume fileid }
 
 -- Whatever the rest of what is stored is: the answer told by the inode and the volume's counts is the serial server's, and nothing
 -- changes.

@@ -6,6 +6,21 @@ ghost use Rattle.filer_state.specs.bytes.Laws.{
   StripeReadIsRight,
   StripeReadMayStarve,
 };
+ghost use Rattle.filer_state.specs.bytes.PermittedLaws.{
+  CommitIsPermitted,
+  CommitIsRefused,
+  LogicalReadIsPermitted,
+  LogicalReadIsRefused,
+  LogicalWriteIsPermitted,
+  LogicalWriteIsRefused,
+  StripeReadIsPermitted,
+  StripeReadIsRefused,
+  StripeWriteClears,
+  StripeWriteIsPermitted,
+  StripeWriteIsRefused,
+  VolumeWriteIsPermitted,
+  VolumeWriteIsRefused,
+};
 ghost use Rattle.filer_state.specs.bytes.WritingLaws.{StripeWriteIsRight};
 ghost use Rattle.filer_state.specs.bytes.WritingUpLaws.{
   LogicalWriteIsRight,
@@ -35,4 +50,30 @@ pub fn writing_calls_are_right()
     ensures in_logical_starves { LogicalWriteMayStarve }
     ensures in_volume { VolumeWriteIsRight }
     ensures in_volume_starves { VolumeWriteMayStarve }
+{}
+
+/// A READ or a COMMIT that the owner, the group and the mode of the file refuse its caller fails and
+/// changes nothing, as the serial server's; any other comes to what it comes to where nothing is
+/// asked. Who owns the file is on its card in each stripe, and in its inode.
+pub fn reads_are_permitted()
+    ensures in_stripe_refused { StripeReadIsRefused }
+    ensures in_stripe { StripeReadIsPermitted }
+    ensures in_logical_refused { LogicalReadIsRefused }
+    ensures in_logical { LogicalReadIsPermitted }
+    ensures commit_refused { CommitIsRefused }
+    ensures commit { CommitIsPermitted }
+{}
+
+/// So does a WRITE. One by a caller that isn't uid 0 ends that the file is run as its owner or its
+/// group: by a stripe, which hasn't the other cards, it moves for that where it would write bytes;
+/// by what is under Volume Logical, and by what is under Volume, the mode is put once the bytes are
+/// written.
+pub fn writes_are_permitted()
+    ensures in_stripe_refused { StripeWriteIsRefused }
+    ensures in_stripe { StripeWriteIsPermitted }
+    ensures in_stripe_clears { StripeWriteClears }
+    ensures in_logical_refused { LogicalWriteIsRefused }
+    ensures in_logical { LogicalWriteIsPermitted }
+    ensures in_volume_refused { VolumeWriteIsRefused }
+    ensures in_volume { VolumeWriteIsPermitted }
 {}

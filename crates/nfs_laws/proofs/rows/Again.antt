@@ -22,7 +22,7 @@ from_port address port = 65536 * address + port
 
 -- of 127.0.0.1, from port 700: in place 0 of 4
 abbrev ann : Caller
-ann = record { credential = record { uid = 7; gid = 8; gids = 9 ∷ [] }; xid = 100; peer = from_port 2130706433 700 }
+ann = record { credential = record { uid = 7; gid = 8; gids = 9 ∷ [] }; xid = 100; peer = from_port 2130706433 700; checked = false; reads_only = false }
 
 -- her next call, in place 1 of 4, and one in place 0 again
 abbrev ann_next : Caller

@@ -2,7 +2,7 @@
 use Rattle.std.proofs.Common.{◌≡◌, ℕ, zero, suc, ◌<◌, take, arith, false, [], ◌∷◌, replicate, Some, None, Ok, refl, inl, inr}
 use Rattle.nfs_model.specs.Types.{Moment, Shown, DirectoryKind, GetattrDone, Null, Success, Ask}
 use Rattle.nfs_model.specs.Tree.{Layout, Logical, Volume}
-use Rattle.nfs_model.specs.Server.{opening, opening_volume, start_of_times}
+use Rattle.nfs_model.specs.Server.{opening, opening_volume, start_of_times, root_of_root}
 use Rattle.nfs_model.specs.Moves.{Stored}
 use Rattle.nfs_model.specs.Work.{Replied}
 use Rattle.nfs_model.specs.Replay.{FinishedCall}
@@ -16,7 +16,7 @@ use Rattle.nfs_laws.proofs.rows.Toy.{asked, scan, toy}
 use Rattle.nfs_laws.proofs.rows.Cases.{nobody}
 
 abbrev layout : Layout
-layout = record { spare = 1 ∷ []; volumes = record { aggregate = 0; ranges = 1; stripes = 8; mebibytes = 16; range_blocks = 1024; inodes = 65536; most_steps = 4; begun = start_of_times; remembered = 0 } ∷ [] }
+layout = record { spare = 1 ∷ []; volumes = record { aggregate = 0; ranges = 1; stripes = 8; mebibytes = 16; range_blocks = 1024; inodes = 65536; most_steps = 4; begun = start_of_times; root = root_of_root; remembered = 0 } ∷ [] }
 
 abbrev setup : Setup
 setup = record { codec = toy; layout = layout; verifier = replicate 8 1; workers = 2; connections = 64 }
@@ -176,8 +176,8 @@ worked =
 
 abbrev opened_volume : Stored
 opened_volume = record {
-  volume = opening_volume (replicate 8 1) 0 (record { aggregate = 0; ranges = 1; stripes = 8; mebibytes = 16; range_blocks = 1024; inodes = 65536; most_steps = 4; begun = start_of_times; remembered = 0 });
-  parts = opening_parts (record { aggregate = 0; ranges = 1; stripes = 8; mebibytes = 16; range_blocks = 1024; inodes = 65536; most_steps = 4; begun = start_of_times; remembered = 0 });
+  volume = opening_volume (replicate 8 1) 0 (record { aggregate = 0; ranges = 1; stripes = 8; mebibytes = 16; range_blocks = 1024; inodes = 65536; most_steps = 4; begun = start_of_times; root = root_of_root; remembered = 0 });
+  parts = opening_parts (record { aggregate = 0; ranges = 1; stripes = 8; mebibytes = 16; range_blocks = 1024; inodes = 65536; most_steps = 4; begun = start_of_times; root = root_of_root; remembered = 0 });
 }
 
 getattr_is_worked : Events setup begun (Work 0) (Ok HasReply) worked
@@ -189,7 +189,7 @@ getattr_is_worked = (
     Replied (Success (GetattrDone root_shown)),
     record {
       server = opening layout (replicate 8 1);
-      parts = opening_parts (record { aggregate = 0; ranges = 1; stripes = 8; mebibytes = 16; range_blocks = 1024; inodes = 65536; most_steps = 4; begun = start_of_times; remembered = 0 }) ∷ [];
+      parts = opening_parts (record { aggregate = 0; ranges = 1; stripes = 8; mebibytes = 16; range_blocks = 1024; inodes = 65536; most_steps = 4; begun = start_of_times; root = root_of_root; remembered = 0 }) ∷ [];
     },
     refl,
     refl,

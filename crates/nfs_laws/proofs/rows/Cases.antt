@@ -1,5 +1,5 @@
 -- What the rows are about: two volumes of one range on an aggregate with one spare range, and small states of the first.
-use Rattle.std.specs.Prelude.{ℕ, List, [], ◌∷◌, replicate, length, Some, None}
+use Rattle.std.specs.Prelude.{ℕ, false, List, [], ◌∷◌, replicate, length, Some, None}
 use Rattle.std.specs.Ordering.{nat_cmp}
 use Rattle.std.specs.FinMap.{from_sorted}
 use Rattle.std.specs.FinSet.{FinSet}
@@ -7,11 +7,11 @@ use Rattle.std.specs.FinSet as sets
 use Rattle.nfs_model.specs.Types.{Moment, Caller, Call, Create, Write, Unchecked, Reply, Success, Failed}
 use Rattle.nfs_model.specs.Types.{Status, Shown, Regular, DirectoryKind, Before, Wcc, Listed, SetAttributes}
 use Rattle.nfs_model.specs.Tree.{Layout, VolumeLayout}
-use Rattle.nfs_model.specs.Server.{Attributes, Node, File, Directory, VolumeState, Server, opening, opening_volume, handle_bytes, start_of_times}
+use Rattle.nfs_model.specs.Server.{Attributes, Node, File, Directory, VolumeState, Server, opening, opening_volume, handle_bytes, start_of_times, root_of_root}
 use Rattle.nfs_model.specs.Serial.Create.{no_attributes}
 
 abbrev pub one_range : VolumeLayout
-one_range = record { aggregate = 0; ranges = 1; stripes = 8; mebibytes = 16; range_blocks = 1024; inodes = 65536; most_steps = 4; begun = start_of_times; remembered = 0 }
+one_range = record { aggregate = 0; ranges = 1; stripes = 8; mebibytes = 16; range_blocks = 1024; inodes = 65536; most_steps = 4; begun = start_of_times; root = root_of_root; remembered = 0 }
 
 abbrev pub layout : Layout
 layout = record { spare = 1 ∷ []; volumes = one_range ∷ (one_range ∷ []) }
@@ -29,7 +29,7 @@ at seconds = record { seconds = seconds; nanoseconds = 0 }
 
 -- the caller without a credential
 abbrev pub nobody : Caller
-nobody = record { credential = record { uid = 65534; gid = 65534; gids = [] }; xid = 0; peer = 0 }
+nobody = record { credential = record { uid = 65534; gid = 65534; gids = [] }; xid = 0; peer = 0; checked = false; reads_only = false }
 
 -- a node of volume 0
 abbrev pub h : ℕ → List ℕ

@@ -10,7 +10,7 @@ use Rattle.nfs_laws.proofs.rows.Cases.{with_four, root_shown, directory_shown, f
 
 -- an entry with attributes and a handle
 abbrev plus : Listed → Shown → List ℕ → ListedPlus
-plus e shown handle = record { entry = e; attributes = Some shown; handle = handle }
+plus e shown handle = record { entry = e; attributes = Some shown; handle = Some handle }
 
 -- `.` and `..` of the root as it begins
 abbrev root_dot : ListedPlus
@@ -111,7 +111,7 @@ times_of_a_file_that_was_written = simp evaluate refl
 
 no_attributes_where_there_is_no_node :
     (serial (holding 3 ((1, root_with 4 (entry 3 a 2 ∷ [])) ∷ [])) (Ask (Readdirplus root 2 (replicate 8 0) 512 4096) nobody) (at 1) false).reply
-    ≡ Success (ReaddirplusDone (root_shown 2 1) (record { entry = entry 3 a 2; attributes = None; handle = h 2 } ∷ []) true)
+    ≡ Success (ReaddirplusDone (root_shown 2 1) (record { entry = entry 3 a 2; attributes = None; handle = Some (h 2) } ∷ []) true)
 no_attributes_where_there_is_no_node = simp evaluate refl
 
 handles_of_another_volume :

@@ -12,7 +12,7 @@ use Rattle.nfs_laws.proofs.rows.Cases.{directory_shown}
 
 -- a user of no further group
 abbrev user : ℕ → ℕ → Caller
-user uid gid = record { credential = record { uid = uid; gid = gid; gids = [] }; xid = 0; peer = 0 }
+user uid gid = record { credential = record { uid = uid; gid = gid; gids = [] }; xid = 0; peer = 0; checked = false; reads_only = false }
 
 -- a file of nobody with this mode, and a directory
 abbrev file_of : ℕ → Server
@@ -62,7 +62,7 @@ group_has_no_more_than_its_digit :
 group_has_no_more_than_its_digit = simp evaluate refl
 
 further_group_writes :
-    (serial (file_of 16) (Ask (CheckAccess (h 2) 63) (record { credential = record { uid = 7; gid = 7; gids = 8 ∷ (65534 ∷ []) }; xid = 0; peer = 0 })) (at 2) false).reply
+    (serial (file_of 16) (Ask (CheckAccess (h 2) 63) (record { credential = record { uid = 7; gid = 7; gids = 8 ∷ (65534 ∷ []) }; xid = 0; peer = 0; checked = false; reads_only = false })) (at 2) false).reply
     ≡ Success (AccessDone (record (file_shown 2 0 0 1 1) { mode = 16 }) 12)
 further_group_writes = simp evaluate refl
 
@@ -174,7 +174,7 @@ pathconf_of_an_absent_node = simp evaluate refl
 
 pathconf_of_a_file :
     (serial (with_file (file [] no_blocks)) (Ask (Pathconf (h 2)) nobody) (at 2) false).reply
-    ≡ Success (PathconfDone (file_shown 2 0 0 1 1))
+    ≡ Success (PathconfDone (file_shown 2 0 0 1 1) false)
 pathconf_of_a_file = simp evaluate refl
 
 -- ---- what isn't supported

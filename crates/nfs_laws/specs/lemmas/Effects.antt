@@ -1,7 +1,7 @@
 -- What a call on a volume keeps of it, and that its answer can be told again.
-use Rattle.std.proofs.Common.{◌≡◌, ℕ, Bool, true, false, cond, List, [], ◌∷◌, Option, Some, None, refl, ap}
-use Rattle.std.specs.Prelude.{not, ◌==◌, min, nat_le}
-use Rattle.std.specs.FinMap.{get}
+use Rattle.std.proofs.Common.{◌≡◌, ℕ, ◌+◌, Bool, true, false, cond, List, [], ◌∷◌, Option, Some, None, refl, ap}
+use Rattle.std.specs.Prelude.{not, ◌==◌, ◌&&◌, is_none, min, nat_le}
+use Rattle.std.specs.FinMap.{get, insert, remove}
 use Rattle.nfs_model.specs.Types as model
 use Rattle.nfs_model.specs.Memo.{Told, ToldSet, ToldMade, ToldGone, ToldRenamed}
 use Rattle.nfs_model.specs.Server.{FileNode, DirectoryNode, Node, File, Directory, VolumeState, most_bytes, handle_bytes}
@@ -10,30 +10,33 @@ use Rattle.nfs_model.specs.Names.{find_name, is_dots, name_fault, same_name, dot
 use Rattle.nfs_model.specs.Locate.{Effect, Fails, Tells, Changes, unless, on_node, on_directory, on_file, Found}
 use Rattle.nfs_model.specs.Locate.{Naming, named_child, on_name}
 use Rattle.nfs_model.specs.Serial.Once.{told_of, answer_told}
-use Rattle.nfs_model.specs.Serial.Setattr.{with_node, set_file, setattr}
+use Rattle.nfs_model.specs.Serial.Permission.{refusal, permitted, permitted_two}
+use Rattle.nfs_model.specs.Serial.Setattr.{with_node, set_file, set_taken, setattr}
 use Rattle.nfs_model.specs.Serial.Getattr.{getattr, tell_of}
 use Rattle.nfs_model.specs.Serial.Lookup.{lookup_told}
 use Rattle.nfs_model.specs.Serial.Read.{read}
 use Rattle.nfs_model.specs.Serial.Write.{Writing, write_some, write}
-use Rattle.nfs_model.specs.Serial.Create.{made_told, with_child, directory_made, made, there_told, set_there, is_verifier, new_file, create_over, create_at, create}
+use Rattle.nfs_model.specs.Serial.Create.{made_told, with_child, directory_made, made, there_told, set_there, over_taken, is_verifier, new_file, maker, create_over, create_at, create}
 use Rattle.nfs_model.specs.Serial.Mkdir.{new_directory, mkdir_at, mkdir}
-use Rattle.nfs_model.specs.Serial.Remove.{gone, remove_node, remove_at, remove_name}
+use Rattle.nfs_model.specs.Serial.Remove.{directory_left, without_child, gone, remove_node, remove_at, remove_name}
 use Rattle.nfs_model.specs.Serial.Rmdir.{if_empty, rmdir_node, rmdir_at, rmdir}
 use Rattle.nfs_model.specs.Serial.Rename.{Renaming, climb_fault, met_above, may_go, renamed_volume, rename_told, is_same_entry, rename_at, rename_in, rename}
 use Rattle.nfs_model.specs.Serial.Readdir.{paged, readdir}
-use Rattle.nfs_model.specs.Serial.Readdirplus.{listed_plus, paged_plus, readdirplus}
+use Rattle.nfs_model.specs.Serial.Readdirplus.{listed_for, paged_plus, readdirplus}
 use Rattle.nfs_model.specs.Serial.Fsstat.{fsstat}
 use Rattle.nfs_model.specs.Serial.Commit.{commit}
-use Rattle.nfs_model.specs.Serial.MountBelow.{part_fault, on_entry, mount_below}
+use Rattle.nfs_model.specs.Serial.MountBelow.{part_fault, on_entry, search_refusal, mount_below}
 use Rattle.nfs_laws.specs.Repeated.{is_success}
+use Rattle.nfs_laws.specs.lemmas.Fileids.{AreBelow, insert_below, remove_below, below_next, more_below, renamed_below, found_there}
 
 -- ---- what is kept
 
--- a volume with another's number, blocks of a range, and what is remembered
+-- a volume with another's number, blocks of a range, and what is remembered; its fileids are below the next one, if they were
 pub record Keeps (old new : VolumeState) : Type 0 where
   pub number : new.number ≡ old.number
   pub range_blocks : new.range_blocks ≡ old.range_blocks
   pub memos : new.memos ≡ old.memos
+  pub fileids : AreBelow old.next old.nodes → AreBelow new.next new.nodes
 
 -- an answer can be told again, of a volume of this number
 abbrev pub CanTell : ℕ → model.Answer → Type 0
@@ -57,7 +60,11 @@ Ends Q old (Tells answer) = Q old answer old
 Ends Q old (Changes answer new) = (is_success (model.Success answer) ≡ true) × Q old answer new
 
 pub same : (volume : VolumeState) → Keeps volume volume
-same volume = record { number = refl; range_blocks = refl; memos = refl }
+same volume = record { number = refl; range_blocks = refl; memos = refl; fileids = λ b. b }
+
+-- the directory of a name is there
+abbrev pub IsNamed : Naming → Type 0
+IsNamed n = get n.volume.nodes n.fileid ≡ Some (Directory n.directory)
 
 -- ---- the parts of procedures
 
@@ -71,49 +78,64 @@ module _ (Q : Fact) where
   unfolding Ends
   ends_changes old answer new q = q
 
-  fails : (old : VolumeState) (status : model.Status) → Ends Q old (Fails status)
+  pub fails : (old : VolumeState) (status : model.Status) → Ends Q old (Fails status)
   unfolding Ends
   fails old status = tt
 
-  tells : (old : VolumeState) (answer : model.Answer) → Q old answer old → Ends Q old (Tells answer)
+  pub tells : (old : VolumeState) (answer : model.Answer) → Q old answer old → Ends Q old (Tells answer)
   unfolding Ends
   tells old answer q = q
 
-  changes : (old : VolumeState) (answer : model.Answer) (new : VolumeState) → is_success (model.Success answer) ≡ true → Q old answer new
+  pub changes : (old : VolumeState) (answer : model.Answer) (new : VolumeState) → is_success (model.Success answer) ≡ true → Q old answer new
       → Ends Q old (Changes answer new)
   unfolding Ends
   changes old answer new e q = (e, q)
 
-  unless_ends : (old : VolumeState) (o : Option model.Status) (e : Effect) → Ends Q old e → Ends Q old (unless o e)
+  pub unless_ends : (old : VolumeState) (o : Option model.Status) (e : Effect) → Ends Q old e → Ends Q old (unless o e)
   unless_ends old None e f = f
   unless_ends old (Some status) e f = fails old status
 
-  if_ends : (old : VolumeState) (b : Bool) (e d : Effect) → Ends Q old e → Ends Q old d → Ends Q old (cond b e d)
+  pub if_ends : (old : VolumeState) (b : Bool) (e d : Effect) → Ends Q old e → Ends Q old d → Ends Q old (cond b e d)
   if_ends old true e d f g = f
   if_ends old false e d f g = g
 
-  node_ends : (old : VolumeState) (o : Option Node) (run : Node → Effect) → ((node : Node) → Ends Q old (run node)) → Ends Q old (on_node o run)
+  node_ends : (old : VolumeState) (o : Option Node) (run : Node → Effect) → ((node : Node) → o ≡ Some node → Ends Q old (run node))
+      → Ends Q old (on_node o run)
   node_ends old None run f = fails old model.Stale
-  node_ends old (Some node) run f = f node
+  node_ends old (Some node) run f = f node refl
 
-  directory_ends : (old : VolumeState) (o : Option Node) (run : DirectoryNode → Effect) → ((d : DirectoryNode) → Ends Q old (run d))
+  directory_ends : (old : VolumeState) (o : Option Node) (run : DirectoryNode → Effect) → ((d : DirectoryNode) → o ≡ Some (Directory d) → Ends Q old (run d))
       → Ends Q old (on_directory o run)
   directory_ends old None run f = fails old model.Stale
   directory_ends old (Some (File g)) run f = fails old model.NotDirectory
-  directory_ends old (Some (Directory d)) run f = f d
+  directory_ends old (Some (Directory d)) run f = f d refl
 
-  file_ends : (old : VolumeState) (o : Option Node) (run : FileNode → Effect) → ((g : FileNode) → Ends Q old (run g)) → Ends Q old (on_file o run)
+  file_ends : (old : VolumeState) (o : Option Node) (run : FileNode → Effect) → ((g : FileNode) → o ≡ Some (File g) → Ends Q old (run g))
+      → Ends Q old (on_file o run)
   file_ends old None run f = fails old model.Stale
-  file_ends old (Some (File g)) run f = f g
+  file_ends old (Some (File g)) run f = f g refl
   file_ends old (Some (Directory d)) run f = fails old model.Invalid
 
   pub name_ends : (name : List ℕ) (moment : model.Moment) (run : Naming → Effect) (volume : VolumeState) (fileid : ℕ)
-      → ((x : Naming) → Ends Q x.volume (run x)) → Ends Q volume (on_name name moment run volume fileid)
+      → ((x : Naming) → IsNamed x → Ends Q x.volume (run x)) → Ends Q volume (on_name name moment run volume fileid)
   name_ends name moment run volume fileid f =
-      directory_ends volume (get volume.nodes fileid) _ (λ d.
-      unless_ends volume (name_fault name) _ (f (record { volume = volume; fileid = fileid; directory = d; name = name; moment = moment })))
+      directory_ends volume (get volume.nodes fileid) _ (λ d e.
+      unless_ends volume (name_fault name) _ (f (record { volume = volume; fileid = fileid; directory = d; name = name; moment = moment }) e))
 
-  empty_ends : (old : VolumeState) (list : List model.Listed) (e : Effect) → Ends Q old e → Ends Q old (if_empty list e)
+  -- a call on one handle, and RENAME, that are permitted or refused
+  pub permitted_ends : (caller : model.Caller) (call : model.Call) (run : VolumeState → ℕ → Effect)
+      → ((volume : VolumeState) (fileid : ℕ) → Ends Q volume (run volume fileid)) → (volume : VolumeState) (fileid : ℕ)
+      → Ends Q volume (permitted caller call run volume fileid)
+  permitted_ends caller call run f volume fileid =
+      unless_ends volume (refusal caller call volume fileid 0) (run volume fileid) (f volume fileid)
+
+  pub permitted_two_ends : (caller : model.Caller) (call : model.Call) (run : VolumeState → ℕ → ℕ → Effect)
+      → ((volume : VolumeState) (from to : ℕ) → Ends Q volume (run volume from to)) → (volume : VolumeState) (from to : ℕ)
+      → Ends Q volume (permitted_two caller call run volume from to)
+  permitted_two_ends caller call run f volume from to =
+      unless_ends volume (refusal caller call volume from to) (run volume from to) (f volume from to)
+
+  pub empty_ends : (old : VolumeState) (list : List model.Listed) (e : Effect) → Ends Q old e → Ends Q old (if_empty list e)
   empty_ends old [] e f = f
   empty_ends old (x ∷ xs) e f = fails old model.NotEmpty
 
@@ -138,86 +160,104 @@ made_tells n new found directory = (
 )
 
 -- of volumes alike but in their nodes
-others : (old new : VolumeState) → new.number ≡ old.number → new.range_blocks ≡ old.range_blocks → new.memos ≡ old.memos → Keeps old new
-others old new e f g = record { number = e; range_blocks = f; memos = g }
+others : (old new : VolumeState) → new.number ≡ old.number → new.range_blocks ≡ old.range_blocks → new.memos ≡ old.memos
+    → (AreBelow old.next old.nodes → AreBelow new.next new.nodes) → Keeps old new
+others old new e f g i = record { number = e; range_blocks = f; memos = g; fileids = i }
+
+-- a volume with another node where one is
+another : (volume : VolumeState) (fileid : ℕ) (there node : Node) → get volume.nodes fileid ≡ Some there → Keeps volume (with_node volume fileid node)
+another volume fileid there node e =
+    others volume (with_node volume fileid node) refl refl refl (λ b. insert_below volume.next volume.nodes fileid node (b fileid there e) b)
 
 -- ---- procedures whose reply is remembered
 
-pub setattr_ends : (set : model.SetAttributes) (guard : Option model.Moment) (moment : model.Moment) (volume : VolumeState) (fileid : ℕ)
-    → Ends Telling volume (setattr set guard moment volume fileid)
-setattr_ends set guard moment volume fileid =
-    node_ends Telling volume (get volume.nodes fileid) _ (λ node. unless_ends Telling volume _ _
-    (changes Telling _ _ _ refl (others _ _ refl refl refl, (ToldSet _, (refl, refl)))))
+pub setattr_ends : (set : model.SetAttributes) (guard : Option model.Moment) (caller : model.Caller) (moment : model.Moment) (volume : VolumeState)
+    (fileid : ℕ) → Ends Telling volume (setattr set guard caller moment volume fileid)
+setattr_ends set guard caller moment volume fileid =
+    node_ends Telling volume (get volume.nodes fileid) _ (λ node e. unless_ends Telling volume _ _
+    (changes Telling _ _ _ refl (another volume fileid node _ e, (ToldSet _, (refl, refl)))))
 
-made_ends : (n : Naming) (node : Node) → Ends Telling n.volume (made n node)
-made_ends n node =
+made_ends : (n : Naming) (node : Node) → IsNamed n → Ends Telling n.volume (made n node)
+made_ends n node e =
     changes Telling n.volume _ (with_child n node) refl (
-      others n.volume (with_child n node) refl refl refl,
+      others n.volume (with_child n node) refl refl refl (λ b.
+          let more : AreBelow (n.volume.next + 1) n.volume.nodes = more_below n.volume.next n.volume.nodes b in
+          insert_below (n.volume.next + 1) (insert n.volume.nodes n.volume.next node) n.fileid (directory_made n) (more n.fileid _ e)
+          (insert_below (n.volume.next + 1) n.volume.nodes n.volume.next node (below_next n.volume.next) more)),
       made_tells n (with_child n node) (record { fileid = n.volume.next; node = node }) (directory_made n),
     )
 
-set_there_ends : (n : Naming) (fileid : ℕ) (node : Node) → Ends Telling n.volume (set_there n fileid node)
-set_there_ends n fileid node =
+set_there_ends : (n : Naming) (fileid : ℕ) (there node : Node) → get n.volume.nodes fileid ≡ Some there → Ends Telling n.volume (set_there n fileid node)
+set_there_ends n fileid there node e =
     let new = with_node n.volume fileid node in
     changes Telling n.volume _ new refl (
-      others n.volume new refl refl refl,
+      another n.volume fileid there node e,
       made_tells (record n { volume = new }) new (record { fileid = fileid; node = node }) (Directory n.directory),
     )
 
 there_ends : (n : Naming) (found : Found) → Ends Telling n.volume (Tells (there_told n n.volume found))
 there_ends n found = tells Telling n.volume _ (same n.volume, made_tells n n.volume found (Directory n.directory))
 
-create_over_ends : (n : Naming) (mode : model.CreateMode) (fileid : ℕ) (node : Node) → Ends Telling n.volume (create_over n mode fileid node)
-create_over_ends n (model.Guarded set) fileid node = fails _ _ _
-create_over_ends n (model.Unchecked set) fileid (Directory other) = fails _ _ _
-create_over_ends n (model.Exclusive verifier) fileid (Directory other) = fails _ _ _
-create_over_ends n (model.Exclusive verifier) fileid (File f) =
+create_over_ends : (n : Naming) (mode : model.CreateMode) (caller : model.Caller) (fileid : ℕ) (node : Node) → get n.volume.nodes fileid ≡ Some node
+    → Ends Telling n.volume (create_over n mode caller fileid node)
+create_over_ends n (model.Guarded set) caller fileid node e = fails _ _ _
+create_over_ends n (model.Unchecked set) caller fileid (Directory other) e = fails _ _ _
+create_over_ends n (model.Exclusive verifier) caller fileid (Directory other) e = fails _ _ _
+create_over_ends n (model.Exclusive verifier) caller fileid (File f) e =
     if_ends Telling n.volume (is_verifier f.verifier verifier) _ _ (there_ends n (record { fileid = fileid; node = File f })) (fails _ _ model.Exists)
-create_over_ends n (model.Unchecked set) fileid (File f) =
-    unless_ends Telling n.volume _ _ (set_there_ends n fileid (File (set_file set n.moment f)))
+create_over_ends n (model.Unchecked set) caller fileid (File f) e =
+    if_ends Telling n.volume (caller.checked && is_none set.size) _ _ (there_ends n (record { fileid = fileid; node = File f }))
+    (unless_ends Telling n.volume _ _ (set_there_ends n fileid (File f) (File (set_file (set_taken caller (over_taken caller set) (File f)) n.moment f)) e))
 
-create_at_ends : (n : Naming) (mode : model.CreateMode) (credential : model.Credential) (o : Option Found)
-    → Ends Telling n.volume (create_at n mode credential o)
-create_at_ends n mode credential (Some found) = create_over_ends n mode found.fileid found.node
-create_at_ends n mode credential None = unless_ends Telling n.volume _ _ (made_ends n (new_file mode credential n.moment))
+create_at_ends : (n : Naming) (mode : model.CreateMode) (caller : model.Caller) (o : Option Found) → IsNamed n → named_child n ≡ o
+    → Ends Telling n.volume (create_at n mode caller o)
+create_at_ends n mode caller (Some found) e f = create_over_ends n mode caller found.fileid found.node (found_there n.volume _ found f)
+create_at_ends n mode caller None e f = unless_ends Telling n.volume _ _ (made_ends n (new_file mode (maker caller n) n.moment) e)
 
-pub create_ends : (mode : model.CreateMode) (credential : model.Credential) (n : Naming) → Ends Telling n.volume (create mode credential n)
-create_ends mode credential n = if_ends Telling n.volume (is_dots n.name) _ _ (fails _ _ _) (create_at_ends n mode credential (named_child n))
+pub create_ends : (mode : model.CreateMode) (caller : model.Caller) (n : Naming) → IsNamed n → Ends Telling n.volume (create mode caller n)
+create_ends mode caller n e =
+    if_ends Telling n.volume (is_dots n.name) _ _ (fails _ _ _) (create_at_ends n mode caller (named_child n) e refl)
 
-mkdir_at_ends : (n : Naming) (set : model.SetAttributes) (credential : model.Credential) (o : Option Found)
-    → Ends Telling n.volume (mkdir_at n set credential o)
-mkdir_at_ends n set credential (Some found) = fails _ _ _
-mkdir_at_ends n set credential None = unless_ends Telling n.volume _ _ (made_ends n (new_directory n.fileid set credential n.moment))
+mkdir_at_ends : (n : Naming) (set : model.SetAttributes) (caller : model.Caller) (o : Option Found) → IsNamed n
+    → Ends Telling n.volume (mkdir_at n set caller o)
+mkdir_at_ends n set caller (Some found) e = fails _ _ _
+mkdir_at_ends n set caller None e = unless_ends Telling n.volume _ _ (made_ends n (new_directory n.fileid set (maker caller n) n.moment) e)
 
-pub mkdir_ends : (set : model.SetAttributes) (credential : model.Credential) (n : Naming) → Ends Telling n.volume (mkdir set credential n)
-mkdir_ends set credential n = if_ends Telling n.volume (is_dots n.name) _ _ (fails _ _ _) (mkdir_at_ends n set credential (named_child n))
+pub mkdir_ends : (set : model.SetAttributes) (caller : model.Caller) (n : Naming) → IsNamed n → Ends Telling n.volume (mkdir set caller n)
+mkdir_ends set caller n e = if_ends Telling n.volume (is_dots n.name) _ _ (fails _ _ _) (mkdir_at_ends n set caller (named_child n) e)
 
-gone_ends : (n : Naming) (fileid : ℕ) → Ends Telling n.volume (gone n fileid)
-gone_ends n fileid = changes Telling _ _ _ refl (others _ _ refl refl refl, (ToldGone _, (refl, refl)))
+gone_ends : (n : Naming) (fileid : ℕ) → IsNamed n → Ends Telling n.volume (gone n fileid)
+gone_ends n fileid e =
+    changes Telling n.volume _ (without_child n fileid) refl (
+      others n.volume (without_child n fileid) refl refl refl (λ b.
+          insert_below n.volume.next (remove n.volume.nodes fileid) n.fileid (directory_left n) (b n.fileid _ e)
+          (remove_below n.volume.next n.volume.nodes fileid b)),
+      (ToldGone _, (refl, refl)),
+    )
 
-remove_node_ends : (n : Naming) (fileid : ℕ) (node : Node) → Ends Telling n.volume (remove_node n fileid node)
-remove_node_ends n fileid (File f) = gone_ends n fileid
-remove_node_ends n fileid (Directory d) = fails _ _ _
+remove_node_ends : (n : Naming) (fileid : ℕ) (node : Node) → IsNamed n → Ends Telling n.volume (remove_node n fileid node)
+remove_node_ends n fileid (File f) e = gone_ends n fileid e
+remove_node_ends n fileid (Directory d) e = fails _ _ _
 
-remove_at_ends : (n : Naming) (o : Option Found) → Ends Telling n.volume (remove_at n o)
-remove_at_ends n None = fails _ _ _
-remove_at_ends n (Some found) = remove_node_ends n found.fileid found.node
+remove_at_ends : (n : Naming) (o : Option Found) → IsNamed n → Ends Telling n.volume (remove_at n o)
+remove_at_ends n None e = fails _ _ _
+remove_at_ends n (Some found) e = remove_node_ends n found.fileid found.node e
 
-pub remove_ends : (n : Naming) → Ends Telling n.volume (remove_name n)
-remove_ends n = if_ends Telling n.volume (is_dots n.name) _ _ (fails _ _ _) (remove_at_ends n (named_child n))
+pub remove_ends : (n : Naming) → IsNamed n → Ends Telling n.volume (remove_name n)
+remove_ends n e = if_ends Telling n.volume (is_dots n.name) _ _ (fails _ _ _) (remove_at_ends n (named_child n) e)
 
-rmdir_node_ends : (n : Naming) (fileid : ℕ) (node : Node) → Ends Telling n.volume (rmdir_node n fileid node)
-rmdir_node_ends n fileid (File f) = fails _ _ _
-rmdir_node_ends n fileid (Directory d) = empty_ends Telling n.volume d.list _ (gone_ends n fileid)
+rmdir_node_ends : (n : Naming) (fileid : ℕ) (node : Node) → IsNamed n → Ends Telling n.volume (rmdir_node n fileid node)
+rmdir_node_ends n fileid (File f) e = fails _ _ _
+rmdir_node_ends n fileid (Directory d) e = empty_ends Telling n.volume d.list _ (gone_ends n fileid e)
 
-rmdir_at_ends : (n : Naming) (o : Option Found) → Ends Telling n.volume (rmdir_at n o)
-rmdir_at_ends n None = fails _ _ _
-rmdir_at_ends n (Some found) = rmdir_node_ends n found.fileid found.node
+rmdir_at_ends : (n : Naming) (o : Option Found) → IsNamed n → Ends Telling n.volume (rmdir_at n o)
+rmdir_at_ends n None e = fails _ _ _
+rmdir_at_ends n (Some found) e = rmdir_node_ends n found.fileid found.node e
 
-pub rmdir_ends : (n : Naming) → Ends Telling n.volume (rmdir n)
-rmdir_ends n =
+pub rmdir_ends : (n : Naming) → IsNamed n → Ends Telling n.volume (rmdir n)
+rmdir_ends n e =
     if_ends Telling n.volume (same_name n.name dot) _ _ (fails _ _ _)
-    (if_ends Telling n.volume (same_name n.name dot_dot) _ _ (fails _ _ _) (rmdir_at_ends n (named_child n)))
+    (if_ends Telling n.volume (same_name n.name dot_dot) _ _ (fails _ _ _) (rmdir_at_ends n (named_child n) e))
 
 renamed_ends : (r : Renaming) (new : VolumeState) → Keeps r.from.volume new → Ends Telling r.from.volume (rename_told r new)
 renamed_ends r new k = changes Telling _ _ new refl (k, (ToldRenamed _ _, (refl, refl)))
@@ -229,7 +269,8 @@ rename_at_ends r (Some found) to =
     if_ends Telling old (is_same_entry r) _ _ (tells Telling _ _ (same _, (ToldRenamed _ _, (refl, refl))))
     (unless_ends Telling old (climb_fault (met_above r found.fileid found.node)) _
     (if_ends Telling old (not (may_go found.node to)) _ _ (fails _ _ model.Exists)
-    (renamed_ends r (renamed_volume r found.fileid to) (others _ _ refl refl refl))))
+    (renamed_ends r (renamed_volume r found.fileid to)
+    (others old (renamed_volume r found.fileid to) refl refl refl (λ b. renamed_below old.next r found.fileid to old.nodes b)))))
 
 rename_in_ends : (r : Renaming) → Ends Telling r.from.volume (rename_in r)
 rename_in_ends r =
@@ -240,73 +281,87 @@ rename_in_ends r =
 pub rename_ends : (from_name to_name : List ℕ) (moment : model.Moment) (volume : VolumeState) (from to : ℕ)
     → Ends Telling volume (rename from_name to_name moment volume from to)
 rename_ends from_name to_name moment volume from to =
-    directory_ends Telling volume (get volume.nodes from) _ (λ d.
-    directory_ends Telling volume (get volume.nodes to) _ (λ e.
+    directory_ends Telling volume (get volume.nodes from) _ (λ d at_from.
+    directory_ends Telling volume (get volume.nodes to) _ (λ e at_to.
     rename_in_ends (record {
       from = record { volume = volume; fileid = from; directory = d; name = from_name; moment = moment };
       to = record { volume = volume; fileid = to; directory = e; name = to_name; moment = moment };
     })))
 
--- ---- the others
+-- ---- procedures that only tell
 
-pub tell_ends : (answer : model.Shown → model.Answer) (volume : VolumeState) (fileid : ℕ) → Ends Keeping volume (tell_of answer volume fileid)
-tell_ends answer volume fileid = node_ends Keeping volume (get volume.nodes fileid) _ (λ node. tells Keeping _ _ (same _))
+-- what holds of a volume that stays, whatever is told
+module _ (Q : Fact) (stays : (volume : VolumeState) (answer : model.Answer) → Q volume answer volume) where
+  stays_told : (volume : VolumeState) (answer : model.Answer) → Ends Q volume (Tells answer)
+  stays_told volume answer = tells Q volume answer (stays volume answer)
 
-pub getattr_ends : (volume : VolumeState) (fileid : ℕ) → Ends Keeping volume (getattr volume fileid)
-getattr_ends volume fileid = node_ends Keeping volume (get volume.nodes fileid) _ (λ node. tells Keeping _ _ (same _))
+  pub tell_ends : (answer : model.Shown → model.Answer) (volume : VolumeState) (fileid : ℕ) → Ends Q volume (tell_of answer volume fileid)
+  tell_ends answer volume fileid = node_ends Q volume (get volume.nodes fileid) _ (λ node e. stays_told volume _)
 
-pub found_ends : (n : Naming) (o : Option Found) → Ends Keeping n.volume (lookup_told n o)
-found_ends n None = fails _ _ _
-found_ends n (Some found) = tells Keeping _ _ (same _)
+  pub getattr_ends : (volume : VolumeState) (fileid : ℕ) → Ends Q volume (getattr volume fileid)
+  getattr_ends volume fileid = node_ends Q volume (get volume.nodes fileid) _ (λ node e. stays_told volume _)
 
-pub read_ends : (offset count : ℕ) (volume : VolumeState) (fileid : ℕ) → Ends Keeping volume (read offset count volume fileid)
-read_ends offset count volume fileid =
-    file_ends Keeping volume (get volume.nodes fileid) _ (λ f.
-    if_ends Keeping volume (nat_le _ offset) _ _ (tells Keeping _ _ (same _)) (tells Keeping _ _ (same _)))
+  pub found_ends : (n : Naming) (o : Option Found) → Ends Q n.volume (lookup_told n o)
+  found_ends n None = fails _ _ _
+  found_ends n (Some found) = stays_told n.volume _
 
-write_some_ends : (volume : VolumeState) (fileid : ℕ) (f : FileNode) (w : Writing) → Ends Keeping volume (write_some volume fileid f w)
-write_some_ends volume fileid f w =
-    unless_ends Keeping volume _ _ (unless_ends Keeping volume _ _ (changes Keeping _ _ _ refl (others _ _ refl refl refl)))
+  pub read_ends : (offset count : ℕ) (volume : VolumeState) (fileid : ℕ) → Ends Q volume (read offset count volume fileid)
+  read_ends offset count volume fileid =
+      file_ends Q volume (get volume.nodes fileid) _ (λ f e.
+      if_ends Q volume (nat_le _ offset) _ _ (stays_told volume _) (stays_told volume _))
+
+  paged_ends : (count : ℕ) (volume : VolumeState) (directory : model.Shown) (remaining page : List model.Listed)
+      → Ends Q volume (paged count directory remaining page)
+  paged_ends count volume directory [] page = if_ends Q volume _ _ _ (fails _ _ _) (stays_told volume _)
+  paged_ends count volume directory (e ∷ es) [] = fails _ _ _
+  paged_ends count volume directory (e ∷ es) (x ∷ xs) = stays_told volume _
+
+  pub readdir_ends : (cookie : ℕ) (verifier : List ℕ) (count : ℕ) (volume : VolumeState) (fileid : ℕ)
+      → Ends Q volume (readdir cookie verifier count volume fileid)
+  readdir_ends cookie verifier count volume fileid =
+      directory_ends Q volume (get volume.nodes fileid) _ (λ d e.
+      if_ends Q volume _ _ _ (fails _ _ _) (paged_ends (min count most_bytes) volume _ _ _))
+
+  paged_plus_ends : (count : ℕ) (told : model.Listed → model.ListedPlus) (volume : VolumeState) (directory : model.Shown)
+      (remaining page : List model.Listed) → Ends Q volume (paged_plus count told directory remaining page)
+  paged_plus_ends count told volume directory [] page = if_ends Q volume _ _ _ (fails _ _ _) (stays_told volume _)
+  paged_plus_ends count told volume directory (e ∷ es) [] = fails _ _ _
+  paged_plus_ends count told volume directory (e ∷ es) (x ∷ xs) = stays_told volume _
+
+  pub readdirplus_ends : (cookie : ℕ) (verifier : List ℕ) (names_count count : ℕ) (caller : model.Caller) (volume : VolumeState) (fileid : ℕ)
+      → Ends Q volume (readdirplus cookie verifier names_count count caller volume fileid)
+  readdirplus_ends cookie verifier names_count count caller volume fileid =
+      directory_ends Q volume (get volume.nodes fileid) _ (λ d e.
+      if_ends Q volume _ _ _ (fails _ _ _) (paged_plus_ends (min count most_bytes) (listed_for caller volume d) volume _ _ _))
+
+  pub fsstat_ends : (volume : VolumeState) (fileid : ℕ) → Ends Q volume (fsstat volume fileid)
+  fsstat_ends volume fileid = node_ends Q volume (get volume.nodes fileid) _ (λ node e. stays_told volume _)
+
+  pub commit_ends : (volume : VolumeState) (fileid : ℕ) → Ends Q volume (commit volume fileid)
+  commit_ends volume fileid = file_ends Q volume (get volume.nodes fileid) _ (λ f e. stays_told volume _)
+
+  pub mount_below_ends : (parts : List (List ℕ)) (caller : model.Caller) (volume : VolumeState) (fileid : ℕ)
+      → Ends Q volume (mount_below parts caller volume fileid)
+  mount_below_ends [] caller volume fileid = directory_ends Q volume (get volume.nodes fileid) _ (λ d e. stays_told volume _)
+  mount_below_ends (part ∷ parts) caller volume fileid =
+      directory_ends Q volume (get volume.nodes fileid) _ (λ d e.
+      unless_ends Q volume (search_refusal caller d) _
+      (unless_ends Q volume (part_fault part) _
+      (entry_ends Q volume (find_name part d.list) (mount_below parts caller volume) (mount_below_ends parts caller volume))))
+
+-- a volume keeps what it is
+pub keeping : (volume : VolumeState) (answer : model.Answer) → Keeping volume answer volume
+keeping volume answer = same volume
+
+-- ---- WRITE
+
+write_some_ends : (volume : VolumeState) (fileid : ℕ) (f : FileNode) (w : Writing) → get volume.nodes fileid ≡ Some (File f)
+    → Ends Keeping volume (write_some volume fileid f w)
+write_some_ends volume fileid f w e =
+    unless_ends Keeping volume _ _ (unless_ends Keeping volume _ _ (changes Keeping _ _ _ refl (another volume fileid (File f) _ e)))
 
 pub write_ends : (w : Writing) (volume : VolumeState) (fileid : ℕ) → Ends Keeping volume (write w volume fileid)
 write_ends w volume fileid =
-    file_ends Keeping volume (get volume.nodes fileid) _ (λ f.
+    file_ends Keeping volume (get volume.nodes fileid) _ (λ f e.
     if_ends Keeping volume _ _ _ (fails _ _ _)
-    (if_ends Keeping volume (w.count == 0) _ _ (tells Keeping _ _ (same _)) (write_some_ends volume fileid f w)))
-
-paged_ends : (count : ℕ) (volume : VolumeState) (directory : model.Shown) (remaining page : List model.Listed)
-    → Ends Keeping volume (paged count directory remaining page)
-paged_ends count volume directory [] page = if_ends Keeping volume _ _ _ (fails _ _ _) (tells Keeping _ _ (same _))
-paged_ends count volume directory (e ∷ es) [] = fails _ _ _
-paged_ends count volume directory (e ∷ es) (x ∷ xs) = tells Keeping _ _ (same _)
-
-pub readdir_ends : (cookie : ℕ) (verifier : List ℕ) (count : ℕ) (volume : VolumeState) (fileid : ℕ)
-    → Ends Keeping volume (readdir cookie verifier count volume fileid)
-readdir_ends cookie verifier count volume fileid =
-    directory_ends Keeping volume (get volume.nodes fileid) _ (λ d.
-    if_ends Keeping volume _ _ _ (fails _ _ _) (paged_ends (min count most_bytes) volume _ _ _))
-
-paged_plus_ends : (count : ℕ) (told : model.Listed → model.ListedPlus) (volume : VolumeState) (directory : model.Shown)
-    (remaining page : List model.Listed) → Ends Keeping volume (paged_plus count told directory remaining page)
-paged_plus_ends count told volume directory [] page = if_ends Keeping volume _ _ _ (fails _ _ _) (tells Keeping _ _ (same _))
-paged_plus_ends count told volume directory (e ∷ es) [] = fails _ _ _
-paged_plus_ends count told volume directory (e ∷ es) (x ∷ xs) = tells Keeping _ _ (same _)
-
-pub readdirplus_ends : (cookie : ℕ) (verifier : List ℕ) (names_count count : ℕ) (volume : VolumeState) (fileid : ℕ)
-    → Ends Keeping volume (readdirplus cookie verifier names_count count volume fileid)
-readdirplus_ends cookie verifier names_count count volume fileid =
-    directory_ends Keeping volume (get volume.nodes fileid) _ (λ d.
-    if_ends Keeping volume _ _ _ (fails _ _ _) (paged_plus_ends (min count most_bytes) (listed_plus volume) volume _ _ _))
-
-pub fsstat_ends : (volume : VolumeState) (fileid : ℕ) → Ends Keeping volume (fsstat volume fileid)
-fsstat_ends volume fileid = node_ends Keeping volume (get volume.nodes fileid) _ (λ node. tells Keeping _ _ (same _))
-
-pub commit_ends : (volume : VolumeState) (fileid : ℕ) → Ends Keeping volume (commit volume fileid)
-commit_ends volume fileid = file_ends Keeping volume (get volume.nodes fileid) _ (λ f. tells Keeping _ _ (same _))
-
-pub mount_below_ends : (parts : List (List ℕ)) (volume : VolumeState) (fileid : ℕ) → Ends Keeping volume (mount_below parts volume fileid)
-mount_below_ends [] volume fileid = directory_ends Keeping volume (get volume.nodes fileid) _ (λ d. tells Keeping _ _ (same _))
-mount_below_ends (part ∷ parts) volume fileid =
-    directory_ends Keeping volume (get volume.nodes fileid) _ (λ d.
-    unless_ends Keeping volume (part_fault part) _
-    (entry_ends Keeping volume (find_name part d.list) (mount_below parts volume) (mount_below_ends parts volume)))
+    (if_ends Keeping volume (w.count == 0) _ _ (tells Keeping _ _ (same _)) (write_some_ends volume fileid f w e)))

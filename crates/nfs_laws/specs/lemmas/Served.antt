@@ -19,7 +19,7 @@ use Rattle.nfs_model.specs.Serial.Mount.{parts_below}
 use Rattle.nfs_model.specs.Serial.Grow.{Grown, grown, grow_volume}
 use Rattle.nfs_model.specs.Serial.Step.{Step, stay, placed, on, on_root, on_two, serve}
 use Rattle.nfs_laws.specs.Repeated.{is_success, volume_of}
-use Rattle.nfs_laws.specs.lemmas.Effects.{Ends, Keeping, Telling, name_ends, tell_ends, getattr_ends, found_ends, read_ends, write_ends, setattr_ends}
+use Rattle.nfs_laws.specs.lemmas.Effects.{Ends, Keeping, Telling, keeping, permitted_ends, permitted_two_ends, name_ends, tell_ends, getattr_ends, found_ends, read_ends, write_ends, setattr_ends}
 use Rattle.nfs_laws.specs.lemmas.Effects.{create_ends, mkdir_ends, remove_ends, rmdir_ends, rename_ends, readdir_ends, readdirplus_ends, fsstat_ends}
 use Rattle.nfs_laws.specs.lemmas.Effects.{commit_ends, mount_below_ends}
 
@@ -176,50 +176,57 @@ pub served : (server : Server) (call : model.Call) (who : model.Caller) (moment 
     → P (serve server call who moment)
 served server model.Null who moment P w = stays server model.Null who moment P w refl _
 served server (model.Getattr handle) who moment P w =
-    on_plain server (model.Getattr handle) who moment P w _ handle _ _ refl (located server handle) getattr_ends
+    on_plain server (model.Getattr handle) who moment P w _ handle _ _ refl (located server handle) (getattr_ends Keeping keeping)
 served server (model.Setattr handle set guard) who moment P w =
-    on_kept server (model.Setattr handle set guard) who moment P w _ handle _ _ refl refl (located server handle) (setattr_ends set guard moment)
+    on_kept server (model.Setattr handle set guard) who moment P w _ handle _ _ refl refl (located server handle)
+    (permitted_ends Telling who (model.Setattr handle set guard) _ (setattr_ends set guard who moment))
 served server (model.Lookup directory name) who moment P w =
     on_plain server (model.Lookup directory name) who moment P w _ directory _ _ refl (located server directory)
-    (λ v f. name_ends Keeping name moment lookup v f (λ n. found_ends n (looked_up n)))
+    (permitted_ends Keeping who (model.Lookup directory name) _ (λ v f. name_ends Keeping name moment lookup v f (λ n e. found_ends Keeping keeping n (looked_up n))))
 served server (model.CheckAccess handle asked) who moment P w =
     on_plain server (model.CheckAccess handle asked) who moment P w _ handle _ _ refl (located server handle)
-    (λ v f. tell_ends (λ object. model.AccessDone object (access_given who.credential asked object)) v f)
+    (λ v f. tell_ends Keeping keeping (λ object. model.AccessDone object (access_given who asked object)) v f)
 served server (model.Read handle offset count) who moment P w =
-    on_plain server (model.Read handle offset count) who moment P w _ handle _ _ refl (located server handle) (read_ends offset count)
+    on_plain server (model.Read handle offset count) who moment P w _ handle _ _ refl (located server handle)
+    (permitted_ends Keeping who (model.Read handle offset count) _ (read_ends Keeping keeping offset count))
 served server (model.Write handle offset count written) who moment P w =
     on_plain server (model.Write handle offset count written) who moment P w _ handle _ _ refl (located server handle)
-    (write_ends (record { offset = offset; count = count; written = written; moment = moment }))
+    (permitted_ends Keeping who (model.Write handle offset count written) _
+    (write_ends (record { caller = who; offset = offset; count = count; written = written; moment = moment })))
 served server (model.Create directory name mode) who moment P w =
     on_kept server (model.Create directory name mode) who moment P w _ directory _ _ refl refl (located server directory)
-    (λ v f. name_ends Telling name moment (create mode who.credential) v f (create_ends mode who.credential))
+    (permitted_ends Telling who (model.Create directory name mode) _
+    (λ v f. name_ends Telling name moment (create mode who) v f (create_ends mode who)))
 served server (model.Mkdir directory name set) who moment P w =
     on_kept server (model.Mkdir directory name set) who moment P w _ directory _ _ refl refl (located server directory)
-    (λ v f. name_ends Telling name moment (mkdir set who.credential) v f (mkdir_ends set who.credential))
+    (permitted_ends Telling who (model.Mkdir directory name set) _ (λ v f. name_ends Telling name moment (mkdir set who) v f (mkdir_ends set who)))
 served server (model.Remove directory name) who moment P w =
     on_kept server (model.Remove directory name) who moment P w _ directory _ _ refl refl (located server directory)
-    (λ v f. name_ends Telling name moment remove_name v f remove_ends)
+    (permitted_ends Telling who (model.Remove directory name) _ (λ v f. name_ends Telling name moment remove_name v f remove_ends))
 served server (model.Rmdir directory name) who moment P w =
     on_kept server (model.Rmdir directory name) who moment P w _ directory _ _ refl refl (located server directory)
-    (λ v f. name_ends Telling name moment rmdir v f rmdir_ends)
+    (permitted_ends Telling who (model.Rmdir directory name) _ (λ v f. name_ends Telling name moment rmdir v f rmdir_ends))
 served server (model.Rename from from_name to to_name) who moment P w =
     two_kept server (model.Rename from from_name to to_name) who moment P w _ from to _ _ _ refl refl (located server from) (located server to)
-    (rename_ends from_name to_name moment)
+    (permitted_two_ends Telling who (model.Rename from from_name to to_name) _ (rename_ends from_name to_name moment))
 served server (model.Readdir directory cookie verifier count) who moment P w =
     on_plain server (model.Readdir directory cookie verifier count) who moment P w _ directory _ _ refl (located server directory)
-    (readdir_ends cookie verifier count)
+    (permitted_ends Keeping who (model.Readdir directory cookie verifier count) _ (readdir_ends Keeping keeping cookie verifier count))
 served server (model.Readdirplus directory cookie verifier names_count count) who moment P w =
     on_plain server (model.Readdirplus directory cookie verifier names_count count) who moment P w _ directory _ _ refl (located server directory)
-    (readdirplus_ends cookie verifier names_count count)
+    (permitted_ends Keeping who (model.Readdirplus directory cookie verifier names_count count) _
+    (readdirplus_ends Keeping keeping cookie verifier names_count count who))
 served server (model.Fsstat handle) who moment P w =
-    on_plain server (model.Fsstat handle) who moment P w _ handle _ _ refl (located server handle) fsstat_ends
+    on_plain server (model.Fsstat handle) who moment P w _ handle _ _ refl (located server handle) (fsstat_ends Keeping keeping)
 served server (model.Fsinfo handle) who moment P w =
     on_plain server (model.Fsinfo handle) who moment P w _ handle _ _ refl (located server handle)
-    (λ v f. tell_ends (λ object. model.FsinfoDone object v.largest) v f)
+    (λ v f. tell_ends Keeping keeping (λ object. model.FsinfoDone object v.largest) v f)
 served server (model.Pathconf handle) who moment P w =
-    on_plain server (model.Pathconf handle) who moment P w _ handle _ _ refl (located server handle) (λ v f. tell_ends model.PathconfDone v f)
+    on_plain server (model.Pathconf handle) who moment P w _ handle _ _ refl (located server handle)
+    (λ v f. tell_ends Keeping keeping (λ object. model.PathconfDone object who.checked) v f)
 served server (model.Commit handle) who moment P w =
-    on_plain server (model.Commit handle) who moment P w _ handle _ _ refl (located server handle) commit_ends
+    on_plain server (model.Commit handle) who moment P w _ handle _ _ refl (located server handle)
+    (permitted_ends Keeping who (model.Commit handle) _ (commit_ends Keeping keeping))
 served server (model.Unsupported which) who moment P w = stays server (model.Unsupported which) who moment P w refl _
 served server model.Census who moment P w = stays server model.Census who moment P w refl _
 served server (model.Grow volume ranges) who moment P w =
@@ -227,4 +234,5 @@ served server (model.Grow volume ranges) who moment P w =
 served server model.Stop who moment P w = stays server model.Stop who moment P w refl _
 served server (model.Mount call) who moment P w = stays server (model.Mount call) who moment P w refl _
 served server (model.MountBelow root path) who moment P w =
-    root_plain server (model.MountBelow root path) who moment P w _ root _ _ refl (located server root) (mount_below_ends (parts_below path))
+    root_plain server (model.MountBelow root path) who moment P w _ root _ _ refl (located server root)
+    (mount_below_ends Keeping keeping (parts_below path) who)

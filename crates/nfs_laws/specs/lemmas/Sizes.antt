@@ -17,10 +17,10 @@ use Rattle.nfs_laws.specs.lemmas.Served.{served}
 -- ---- the server
 
 -- a fact of each volume by its number
-abbrev All : (ℕ → VolumeState → Type 0) → List VolumeState → Type 0
+abbrev pub All : (ℕ → VolumeState → Type 0) → List VolumeState → Type 0
 All P volumes = (i : ℕ) (v : VolumeState) → slice_get volumes i ≡ Some v → P i v
 
-set_all : (P : ℕ → VolumeState → Type 0) (volumes : List VolumeState) (j : ℕ) (new : VolumeState) → P j new → All P volumes
+pub set_all : (P : ℕ → VolumeState → Type 0) (volumes : List VolumeState) (j : ℕ) (new : VolumeState) → P j new → All P volumes
     → All P (slice_set volumes j new)
 set_all P [] j new p all i v e = all i v e
 set_all P (x ∷ xs) zero new p all zero v e = subst (λ w. P zero w) (let same : new ≡ v = cc in same) p

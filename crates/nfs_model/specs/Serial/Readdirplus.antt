@@ -2,11 +2,12 @@
 use Rattle.std.specs.Prelude.{ℕ, ◌+◌, ◌-◌, min, not, ◌&&◌, ◌==◌, nat_lt, nat_le, List, [], ◌∷◌, map}
 use Rattle.std.specs.Prelude.{length, replicate, Option, Some, None, if◌then◌else◌}
 use Rattle.std.specs.FinMap.{get}
-use Rattle.nfs_model.specs.Types.{Listed, ListedPlus, Shown, ReaddirplusDone, BadCookie, TooSmall}
-use Rattle.nfs_model.specs.Server.{Node, Directory, VolumeState, most_bytes, handle_bytes}
+use Rattle.nfs_model.specs.Types.{Caller, Listed, ListedPlus, Shown, ReaddirplusDone, BadCookie, TooSmall}
+use Rattle.nfs_model.specs.Server.{DirectoryNode, Node, Directory, VolumeState, most_bytes, handle_bytes}
 use Rattle.nfs_model.specs.Shown.{shown}
 use Rattle.nfs_model.specs.Names.{same_name}
 use Rattle.nfs_model.specs.Locate.{Effect, Fails, Tells, on_directory}
+use Rattle.nfs_model.specs.Serial.Rights.{protection, may_search}
 use Rattle.nfs_model.specs.Serial.Readdir.{all_listed, above_cookie, entry_size, fitting}
 
 -- ---- what is told of an entry
@@ -21,8 +22,18 @@ abbrev pub listed_plus : VolumeState → Listed → ListedPlus
 listed_plus volume e = record {
   entry = e;
   attributes = shown_at volume e.fileid (get volume.nodes e.fileid);
-  handle = handle_bytes volume.number e.fileid;
+  handle = Some (handle_bytes volume.number e.fileid);
 }
+
+-- an entry alone
+abbrev pub listed_bare : Listed → ListedPlus
+listed_bare e = record { entry = e; attributes = None; handle = None }
+
+-- what a caller is told of an entry: more than its name where it may search the directory
+abbrev pub listed_for : Caller → VolumeState → DirectoryNode → Listed → ListedPlus
+listed_for caller volume d e =
+    if caller.checked && not (may_search caller.credential (protection (Directory d))) then listed_bare e
+    else listed_plus volume e
 
 -- ---- which entries are told
 
@@ -63,8 +74,8 @@ readdirplus_from names_count count told directory remaining =
     paged_plus count told directory remaining (page_plus names_count count remaining)
 
 -- STALE, NOTDIR, BAD_COOKIE, TOOSMALL
-abbrev pub readdirplus : ℕ → List ℕ → ℕ → ℕ → VolumeState → ℕ → Effect
-readdirplus cookie verifier names_count count volume fileid = on_directory (get volume.nodes fileid) (λ d.
+abbrev pub readdirplus : ℕ → List ℕ → ℕ → ℕ → Caller → VolumeState → ℕ → Effect
+readdirplus cookie verifier names_count count caller volume fileid = on_directory (get volume.nodes fileid) (λ d.
     if not (cookie == 0) && not (same_name verifier (replicate 8 0)) then Fails BadCookie
-    else readdirplus_from (min names_count most_bytes) (min count most_bytes) (listed_plus volume)
+    else readdirplus_from (min names_count most_bytes) (min count most_bytes) (listed_for caller volume d)
     (shown volume fileid (Directory d)) (above_cookie cookie (all_listed fileid d)))

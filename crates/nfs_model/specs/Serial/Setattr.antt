@@ -1,13 +1,14 @@
 -- SETATTR (RFC 1813 section 3.3.2), and what it shares with CREATE.
-use Rattle.std.specs.Prelude.{ℕ, ◌-◌, ◌*◌, ◌%◌, Bool, false, ◌||◌, not, nat_le, nat_lt, List, ◌++◌, length}
+use Rattle.std.specs.Prelude.{ℕ, ◌-◌, ◌*◌, ◌%◌, ◌==◌, Bool, false, ◌&&◌, ◌||◌, not, nat_le, nat_lt, List, ◌++◌, length}
 use Rattle.std.specs.Prelude.{take, replicate, Option, Some, None, is_some, if◌then◌else◌}
 use Rattle.std.specs.FinMap.{get, insert}
 use Rattle.std.specs.FinSet.{retain}
-use Rattle.nfs_model.specs.Types.{Moment, SetTime, Keep, ServerTime, ClientTime, SetAttributes, Status}
+use Rattle.nfs_model.specs.Types.{Moment, Credential, Caller, SetTime, Keep, ServerTime, ClientTime, SetAttributes, Status}
 use Rattle.nfs_model.specs.Types.{nanoseconds_of_a_second, NotSynchronous, Invalid, TooBig, SetattrDone}
 use Rattle.nfs_model.specs.Server.{Attributes, FileNode, Node, File, Directory, VolumeState, block_size}
 use Rattle.nfs_model.specs.Shown.{same_moment, times, settled, wcc}
 use Rattle.nfs_model.specs.Locate.{Effect, Changes, on_node, unless}
+use Rattle.nfs_model.specs.Serial.Rights.{Protection, protection, without_set_ids, mode_of_group}
 
 -- ---- what several procedures share
 
@@ -71,6 +72,27 @@ abbrev pub set_file : SetAttributes → Moment → FileNode → FileNode
 set_file set moment f =
     record (resized set.size (settled f)) { attributes = set_attributes set moment (settled f).attributes }
 
+-- ---- what a checked caller's attributes are taken as
+
+-- the mode, where none is given: a new owner or group ends that a file is run as its owner, and so does a new size that another than uid 0
+-- gives
+abbrev pub mode_kept : Credential → SetAttributes → Protection → Option ℕ
+mode_kept who set object =
+    if is_some set.uid || is_some set.gid || (is_some set.size && not (who.uid == 0))
+    then Some (without_set_ids object.mode) else None
+
+-- the mode of a file, by the group that it comes to have
+abbrev pub mode_taken : Credential → SetAttributes → Protection → Option ℕ → Option ℕ
+mode_taken who set object None = mode_kept who set object
+mode_taken who set object (Some mode) = Some (mode_of_group who (given set.gid object.gid) mode)
+
+-- what is set of a node: of a directory, all that is given
+abbrev pub set_taken : Caller → SetAttributes → Node → SetAttributes
+set_taken caller set (File f) =
+    if caller.checked
+    then record set { mode = mode_taken caller.credential set (protection (File f)) set.mode } else set
+set_taken caller set (Directory d) = set
+
 -- ---- the procedure
 
 -- sattrguard3 (RFC 1813 section 3.3.2) names another ctime
@@ -109,6 +131,7 @@ replaced volume fileid old new =
     (with_node volume fileid new)
 
 -- STALE, then the checks, then the change
-abbrev pub setattr : SetAttributes → Option Moment → Moment → VolumeState → ℕ → Effect
-setattr set guard moment volume fileid = on_node (get volume.nodes fileid) (λ node.
-    unless (setattr_fault volume set guard node) (replaced volume fileid node (set_node set moment node)))
+abbrev pub setattr : SetAttributes → Option Moment → Caller → Moment → VolumeState → ℕ → Effect
+setattr set guard caller moment volume fileid = on_node (get volume.nodes fileid) (λ node.
+    unless (setattr_fault volume set guard node)
+    (replaced volume fileid node (set_node (set_taken caller set node) moment node)))

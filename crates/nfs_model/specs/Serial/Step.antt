@@ -9,6 +9,7 @@ use Rattle.nfs_model.specs.Types.{Ask, Refused, Undecoded}
 use Rattle.nfs_model.specs.Server.{VolumeState, Server, with_volume}
 use Rattle.nfs_model.specs.Locate.{Effect, Fails, Tells, Changes, Located, locate, on_name}
 use Rattle.nfs_model.specs.Serial.Absent.{absent_parts}
+use Rattle.nfs_model.specs.Serial.Permission.{permitted, permitted_two}
 use Rattle.nfs_model.specs.Serial.Once.{once}
 use Rattle.nfs_model.specs.Serial.Getattr.{getattr}
 use Rattle.nfs_model.specs.Serial.Setattr.{setattr}
@@ -67,46 +68,52 @@ on_two server absent (Some from) (Some to) run =
     then placed server absent from.named.volume (run from.volume from.named.fileid to.named.fileid)
     else stay server (Failed CrossVolume absent)
 
+-- a call that changes names or attributes: what it was told before, else what its caller may do
+abbrev pub changing : Caller → Call → Moment → (VolumeState → ℕ → Effect) → VolumeState → ℕ → Effect
+changing caller call moment run volume fileid =
+    once caller call moment volume (permitted caller call run volume fileid)
+
 -- a call that was decoded, by its procedure (RFC 1813 section 3.3); a failure has this many absent
 -- parts
 abbrev pub serve_by : Server → ℕ → Call → Caller → Moment → Step
 serve_by server absent Null caller moment = stay server NullDone
 serve_by server absent (Getattr handle) caller moment = on server absent (locate server handle) getattr
 serve_by server absent (Setattr handle set guard) caller moment =
-    on server absent (locate server handle) (λ volume fileid.
-    once caller (Setattr handle set guard) moment volume (setattr set guard moment volume fileid))
+    on server absent (locate server handle) (changing caller (Setattr handle set guard) moment (setattr set guard caller moment))
 serve_by server absent (Lookup directory name) caller moment =
-    on server absent (locate server directory) (on_name name moment lookup)
+    on server absent (locate server directory) (permitted caller (Lookup directory name) (on_name name moment lookup))
 serve_by server absent (CheckAccess handle asked) caller moment =
-    on server absent (locate server handle) (access asked caller.credential)
+    on server absent (locate server handle) (access asked caller)
 serve_by server absent (Read handle offset count) caller moment =
-    on server absent (locate server handle) (read offset count)
+    on server absent (locate server handle) (permitted caller (Read handle offset count) (read offset count))
 serve_by server absent (Write handle offset count written) caller moment =
-    on server absent (locate server handle)
-    (write (record { offset = offset; count = count; written = written; moment = moment }))
+    on server absent (locate server handle) (permitted caller (Write handle offset count written)
+    (write (record { caller = caller; offset = offset; count = count; written = written; moment = moment })))
 serve_by server absent (Create directory name mode) caller moment =
-    on server absent (locate server directory) (λ volume fileid.
-    once caller (Create directory name mode) moment volume (on_name name moment (create mode caller.credential) volume fileid))
+    on server absent (locate server directory)
+    (changing caller (Create directory name mode) moment (on_name name moment (create mode caller)))
 serve_by server absent (Mkdir directory name set) caller moment =
-    on server absent (locate server directory) (λ volume fileid.
-    once caller (Mkdir directory name set) moment volume (on_name name moment (mkdir set caller.credential) volume fileid))
+    on server absent (locate server directory)
+    (changing caller (Mkdir directory name set) moment (on_name name moment (mkdir set caller)))
 serve_by server absent (Remove directory name) caller moment =
-    on server absent (locate server directory) (λ volume fileid.
-    once caller (Remove directory name) moment volume (on_name name moment remove_name volume fileid))
+    on server absent (locate server directory) (changing caller (Remove directory name) moment (on_name name moment remove_name))
 serve_by server absent (Rmdir directory name) caller moment =
-    on server absent (locate server directory) (λ volume fileid.
-    once caller (Rmdir directory name) moment volume (on_name name moment rmdir volume fileid))
+    on server absent (locate server directory) (changing caller (Rmdir directory name) moment (on_name name moment rmdir))
 serve_by server absent (Rename from from_name to to_name) caller moment =
     on_two server absent (locate server from) (locate server to) (λ volume fileid other.
-    once caller (Rename from from_name to to_name) moment volume (rename from_name to_name moment volume fileid other))
+    once caller (Rename from from_name to to_name) moment volume
+    (permitted_two caller (Rename from from_name to to_name) (rename from_name to_name moment) volume fileid other))
 serve_by server absent (Readdir directory cookie verifier count) caller moment =
-    on server absent (locate server directory) (readdir cookie verifier count)
+    on server absent (locate server directory)
+    (permitted caller (Readdir directory cookie verifier count) (readdir cookie verifier count))
 serve_by server absent (Readdirplus directory cookie verifier names_count count) caller moment =
-    on server absent (locate server directory) (readdirplus cookie verifier names_count count)
+    on server absent (locate server directory)
+    (permitted caller (Readdirplus directory cookie verifier names_count count) (readdirplus cookie verifier names_count count caller))
 serve_by server absent (Fsstat handle) caller moment = on server absent (locate server handle) fsstat
 serve_by server absent (Fsinfo handle) caller moment = on server absent (locate server handle) fsinfo
-serve_by server absent (Pathconf handle) caller moment = on server absent (locate server handle) pathconf
-serve_by server absent (Commit handle) caller moment = on server absent (locate server handle) commit
+serve_by server absent (Pathconf handle) caller moment = on server absent (locate server handle) (pathconf caller)
+serve_by server absent (Commit handle) caller moment =
+    on server absent (locate server handle) (permitted caller (Commit handle) commit)
 serve_by server absent (Unsupported which) caller moment = stay server (Failed NotSupported absent)
 serve_by server absent Census caller moment = stay server (census server)
 serve_by server absent (Grow volume ranges) caller moment =
@@ -117,7 +124,7 @@ serve_by server absent (Grow volume ranges) caller moment =
 serve_by server absent Stop caller moment = stay server StopDone
 serve_by server absent (Mount call) caller moment = stay server (mount (length server.volumes) call)
 serve_by server absent (MountBelow root path) caller moment =
-    on_root server absent (locate server root) (mount_below (parts_below path))
+    on_root server absent (locate server root) (mount_below (parts_below path) caller)
 
 -- a call that was decoded
 abbrev pub serve : Server → Call → Caller → Moment → Step

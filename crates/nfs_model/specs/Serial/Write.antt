@@ -1,15 +1,16 @@
 -- WRITE (RFC 1813 section 3.3.7). A block is filled as a whole; memory is stable storage, so what
 -- is written is committed (our profile).
-use Rattle.std.specs.Prelude.{ℕ, ◌+◌, ◌-◌, ◌/◌, not, nat_lt, ◌==◌, List, [], ◌∷◌, ◌++◌, length, take, drop}
+use Rattle.std.specs.Prelude.{ℕ, ◌+◌, ◌-◌, ◌/◌, Bool, not, ◌&&◌, nat_lt, ◌==◌, List, [], ◌∷◌, ◌++◌, length, take, drop}
 use Rattle.std.specs.Prelude.{replicate, Option, Some, None, if◌then◌else◌}
 use Rattle.std.specs.List.{range_with_len, filter}
 use Rattle.std.specs.Ordering.{nat_cmp}
 use Rattle.std.specs.FinMap.{get}
 use Rattle.std.specs.FinSet.{FinSet, contains, insert}
-use Rattle.nfs_model.specs.Types.{Moment, Status, Invalid, TooBig, NoSpace, WriteDone}
+use Rattle.nfs_model.specs.Types.{Caller, Moment, Status, Invalid, TooBig, NoSpace, WriteDone}
 use Rattle.nfs_model.specs.Server.{FileNode, File, VolumeState, used, block_size, most_bytes}
 use Rattle.nfs_model.specs.Shown.{touched}
 use Rattle.nfs_model.specs.Locate.{Effect, Fails, Tells, Changes, unless, on_file}
+use Rattle.nfs_model.specs.Serial.Rights.{without_set_ids}
 use Rattle.nfs_model.specs.Serial.Setattr.{with_node}
 
 -- the numbers of the blocks that n bytes at an offset meet
@@ -54,8 +55,20 @@ written_file f offset written moment = record f {
   touch = Some (touched f.touch moment);
 }
 
+-- whether a caller's WRITE ends that a file is run as its owner: where it is checked, and not uid 0
+abbrev pub clears_set_ids : Caller → FileNode → Bool
+clears_set_ids caller f =
+    caller.checked && not (caller.credential.uid == 0) && not (without_set_ids f.attributes.mode == f.attributes.mode)
+
+-- a file that a caller writes, before its bytes change
+abbrev pub file_taken : Caller → FileNode → FileNode
+file_taken caller f =
+    if clears_set_ids caller f
+    then record f { attributes = record f.attributes { mode = without_set_ids f.attributes.mode } } else f
+
 -- what a WRITE asks of a file, at a moment
 pub record Writing : Type 0 where
+  pub caller : Caller
   pub offset : ℕ
   pub count : ℕ
   pub written : List ℕ
@@ -71,7 +84,7 @@ write_some volume fileid f w =
     unless (write_fault volume w.offset (length (bytes_kept w)))
     (unless (space_fault volume f w.offset (length (bytes_kept w)))
     (Changes (WriteDone (length (bytes_kept w)) volume.verifier)
-    (with_node volume fileid (File (written_file f w.offset (bytes_kept w) w.moment)))))
+    (with_node volume fileid (File (written_file (file_taken w.caller f) w.offset (bytes_kept w) w.moment)))))
 
 -- STALE, INVAL for a directory, INVAL for a count that isn't the data's length; a count of 0
 -- changes nothing; then the rest

@@ -9,7 +9,7 @@ use Rattle.std.specs.FinSet.{FinSet}
 use Rattle.std.specs.Ordering.{nat_cmp}
 use Rattle.std.specs.Prelude.{Bool, true, false}
 use Rattle.nfs_model.specs.Types as types
-use Rattle.nfs_model.specs.Types.{Moment, Listed, Caller, SetTime, Keep, ServerTime, ClientTime, SetAttributes, CreateMode, Unchecked, Guarded}
+use Rattle.nfs_model.specs.Types.{Moment, Ownership, Listed, Caller, SetTime, Keep, ServerTime, ClientTime, SetAttributes, CreateMode, Unchecked, Guarded}
 use Rattle.nfs_model.specs.Types.{Exclusive, Kind, Regular, Shown, Wcc}
 use Rattle.nfs_model.specs.Memo.{Change, Sets, Creates, MakesDirectory, Removes, RemovesDirectory, Renames, Told, ToldSet, ToldMade, ToldGone}
 use Rattle.nfs_model.specs.Memo.{ToldRenamed, Memo}
@@ -73,20 +73,27 @@ coded_inodes =
 
 -- ---- stripes
 
-abbrev pub card_out : Card → Option (ℕ × Option Moment)
-card_out (OfFile size touch) = Some (size, touch)
+abbrev pub coded_ownership : Coded Ownership
+coded_ownership =
+    code_by (ℕ × (ℕ × ℕ)) (coded× coded_ℕ (coded× coded_ℕ coded_ℕ)) (λ o. (o.mode, (o.uid, o.gid)))
+    (λ p. record { mode = p.0; uid = p.1.0; gid = p.1.1 }) (λ _. refl)
+
+abbrev pub card_out : Card → Option (ℕ × (Option Moment × Ownership))
+card_out (OfFile size touch owner) = Some (size, (touch, owner))
 card_out OfDirectory = None
 
-abbrev pub card_back : Option (ℕ × Option Moment) → Card
+abbrev pub card_back : Option (ℕ × (Option Moment × Ownership)) → Card
 card_back None = OfDirectory
-card_back (Some p) = OfFile p.0 p.1
+card_back (Some p) = OfFile p.0 p.1.0 p.1.1
 
 pub card_again : (c : Card) → card_back (card_out c) ≡ c
-card_again (OfFile size touch) = refl
+card_again (OfFile size touch owner) = refl
 card_again OfDirectory = refl
 
 abbrev pub coded_card : Coded Card
-coded_card = code_by (Option (ℕ × Option Moment)) (coded_option (coded× coded_ℕ (coded_option coded_moment))) card_out card_back card_again
+coded_card =
+    code_by (Option (ℕ × (Option Moment × Ownership)))
+    (coded_option (coded× coded_ℕ (coded× (coded_option coded_moment) coded_ownership))) card_out card_back card_again
 
 abbrev pub coded_block : Coded Block
 coded_block = code_by (ℕ × List ℕ) (coded× coded_ℕ (coded_list coded_ℕ)) (λ b. (b.number, b.bytes)) (λ p. record { number = p.0; bytes = p.1 }) (λ _. refl)
@@ -114,9 +121,18 @@ coded_dead =
 -- ---- what is remembered of calls
 
 abbrev pub coded_caller : Coded Caller
-coded_caller = code_by ((ℕ × (ℕ × List ℕ)) × (ℕ × ℕ)) (coded× (coded× coded_ℕ (coded× coded_ℕ (coded_list coded_ℕ))) (coded× coded_ℕ coded_ℕ))
-    (λ c. ((c.credential.uid, (c.credential.gid, c.credential.gids)), (c.xid, c.peer)))
-    (λ p. record { credential = record { uid = p.0.0; gid = p.0.1.0; gids = p.0.1.1 }; xid = p.1.0; peer = p.1.1 }) (λ _. refl)
+coded_caller =
+    code_by ((ℕ × (ℕ × List ℕ)) × ((ℕ × ℕ) × (Bool × Bool)))
+    (coded× (coded× coded_ℕ (coded× coded_ℕ (coded_list coded_ℕ))) (coded× (coded× coded_ℕ coded_ℕ) (coded× coded_bool coded_bool)))
+    (λ c. ((c.credential.uid, (c.credential.gid, c.credential.gids)), ((c.xid, c.peer), (c.checked, c.reads_only))))
+    (λ p. record {
+      credential = record { uid = p.0.0; gid = p.0.1.0; gids = p.0.1.1 };
+      xid = p.1.0.0;
+      peer = p.1.0.1;
+      checked = p.1.1.0;
+      reads_only = p.1.1.1;
+    })
+    (λ _. refl)
 
 abbrev pub time_out : SetTime → Bool ⊎ Moment
 time_out Keep = inl false

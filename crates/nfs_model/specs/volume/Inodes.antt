@@ -2,7 +2,7 @@
 use Rattle.std.specs.Prelude.{◌≡◌, ℕ, ◌+◌, ◌-◌, ◌<◌, List, [], ◌∷◌, Option, Some, None}
 use Rattle.std.specs.Ordering.{nat_cmp}
 use Rattle.std.specs.FinMap.{FinMap, get, insert, remove, entries, from_sorted}
-use Rattle.nfs_model.specs.Types.{Moment}
+use Rattle.nfs_model.specs.Types.{Moment, Ownership}
 use Rattle.nfs_model.specs.Server.{Attributes, root_node}
 use Rattle.nfs_model.specs.Shown.{effective_attributes, times}
 use Rattle.nfs_model.specs.volume.Maps.{changed_at}
@@ -30,12 +30,12 @@ inodes_of_a_volume = 67108864
 -- ---- the beginning
 
 -- the root of a volume that begins at a moment, its own parent, with the attributes that it begins with
-abbrev pub root_inode : Moment → Inode
-root_inode moment = record { attributes = times (root_node moment); kind = DirectoryKind 1 0 }
+abbrev pub root_inode : Ownership → Moment → Inode
+root_inode owner moment = record { attributes = times (root_node owner moment); kind = DirectoryKind 1 0 }
 
 -- a volume's inodes as it begins at a moment: its root alone
-abbrev pub opening_inodes : Moment → InodesValue
-opening_inodes moment = record { next = 2; used = 0; inodes = from_sorted ((1, root_inode moment) ∷ []) }
+abbrev pub opening_inodes : Ownership → Moment → InodesValue
+opening_inodes owner moment = record { next = 2; used = 0; inodes = from_sorted ((1, root_inode owner moment) ∷ []) }
 
 -- ---- what is asked
 

@@ -7,7 +7,7 @@ use Rattle.std.specs.declared.cmp.Ordering.{Ordering}
 use Rattle.std.specs.FinMap.{FinMap, get, insert, remove, retain_keys, entries}
 use Rattle.std.specs.FinMap as maps
 use Rattle.std.specs.List.{range_with_len, filter, list_all}
-use Rattle.nfs_model.specs.Types.{Moment}
+use Rattle.nfs_model.specs.Types.{Moment, Ownership}
 use Rattle.nfs_model.specs.Server.{block_size}
 use Rattle.nfs_model.specs.Home.{span_bytes}
 use Rattle.nfs_model.specs.Shown.{touched}
@@ -16,9 +16,9 @@ use Rattle.nfs_model.specs.volume.Maps.{map_values, changed_at}
 
 -- ---- its parts
 
--- the card of an inode: a file's size in bytes, and the latest write to this stripe since its times were last set
+-- the card of an inode: a file's size in bytes, the latest write to this stripe since its times were last set, and who owns it
 pub data Card : Type 0 where
-  OfFile : (size : ℕ) (touch : Option Moment) → Card
+  OfFile : (size : ℕ) (touch : Option Moment) (owner : Ownership) → Card
   OfDirectory : Card
 
 -- a block of a file: its number in the volume, and its 4,096 bytes
@@ -70,7 +70,7 @@ bytes_read s fileid offset n = map (byte_at s fileid) (range_with_len offset n)
 abbrev pub reaches : ℕ → Option Card → Bool
 reaches end None = false
 reaches end (Some OfDirectory) = false
-reaches end (Some (OfFile size touch)) = nat_le end size
+reaches end (Some (OfFile size touch owner)) = nat_le end size
 
 -- whether a block of a file is there
 abbrev pub is_filled : StripeValue → ℕ → ℕ → Bool
@@ -83,7 +83,7 @@ stays_within fileid offset n s =
 
 -- the touch on a card
 abbrev pub touch_of : Option Card → Option Moment
-touch_of (Some (OfFile size touch)) = touch
+touch_of (Some (OfFile size touch owner)) = touch
 touch_of (Some OfDirectory) = None
 touch_of None = None
 
@@ -91,21 +91,39 @@ touch_of None = None
 
 -- a file's card with a write at a moment
 abbrev pub card_touched : Moment → Card → Card
-card_touched moment (OfFile size touch) = OfFile size (Some (touched touch moment))
+card_touched moment (OfFile size touch owner) = OfFile size (Some (touched touch moment)) owner
 card_touched moment OfDirectory = OfDirectory
 
 -- a file's card whose touch was taken
 abbrev pub card_settled : Card → Card
-card_settled (OfFile size touch) = OfFile size None
+card_settled (OfFile size touch owner) = OfFile size None owner
 card_settled OfDirectory = OfDirectory
 
 -- a touch taken, where there is one
 abbrev pub touch_taken : ℕ → StripeValue → StripeValue
 touch_taken fileid s = record s { cards = changed_at card_settled fileid s.cards }
 
--- a file's card with a size, where there is one or not: the touch stays
-abbrev pub file_card_set : ℕ → ℕ → StripeValue → StripeValue
-file_card_set fileid size s = record s { cards = insert s.cards fileid (OfFile size (touch_of (get s.cards fileid))) }
+-- a file's card with a size and an owner, where there is one or not: the touch stays
+abbrev pub file_card_set : ℕ → ℕ → Ownership → StripeValue → StripeValue
+file_card_set fileid size owner s = record s { cards = insert s.cards fileid (OfFile size (touch_of (get s.cards fileid)) owner) }
+
+-- a file's card with another size
+abbrev pub card_sized : ℕ → Card → Card
+card_sized size (OfFile old touch owner) = OfFile size touch owner
+card_sized size OfDirectory = OfDirectory
+
+-- and where there is one, it has that size
+abbrev pub file_card_sized : ℕ → ℕ → StripeValue → StripeValue
+file_card_sized fileid size s = record s { cards = changed_at (card_sized size) fileid s.cards }
+
+-- a file's card with another owner
+abbrev pub card_owned : Ownership → Card → Card
+card_owned owner (OfFile size touch old) = OfFile size touch owner
+card_owned owner OfDirectory = OfDirectory
+
+-- and where there is one, it has that owner
+abbrev pub file_card_owned : ℕ → Ownership → StripeValue → StripeValue
+file_card_owned fileid owner s = record s { cards = changed_at (card_owned owner) fileid s.cards }
 
 -- a directory's card
 abbrev pub directory_card_set : ℕ → StripeValue → StripeValue

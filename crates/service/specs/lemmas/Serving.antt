@@ -15,6 +15,7 @@ use Rattle.nfs_model.specs.Serial.Absent.{absent_parts}
 use Rattle.nfs_model.specs.Serial.Mount.{parts_below}
 use Rattle.nfs_model.specs.Serial.MountBelow.{mount_below}
 use Rattle.nfs_model.specs.Serial.Once.{once}
+use Rattle.nfs_model.specs.Serial.Permission.{permitted_two}
 use Rattle.nfs_model.specs.Serial.Rename.{rename}
 use Rattle.nfs_model.specs.Serial.Step.{on, on_root, on_two, placed, serve, stay}
 use Rattle.nfs_model.specs.Parts.{Parts}
@@ -104,6 +105,7 @@ on-handle : (layout : Layout) (a : Affinity) (call : types.Call) (caller : Calle
     ≡ on server (absent_parts call) (locate server (handle_in call)) (procedure call (other_in layout call) caller moment))
     → IsCallOn layout (volume_around a) (call_on layout a caller moment call) caller moment
 on-handle layout a call caller moment at tried serves = record {
+  called = refl;
   good = at.names;
   under = at.above;
   tried = tried;
@@ -118,11 +120,12 @@ on-a-root : (layout : Layout) (a : Affinity) (root path : List ℕ) (caller : Ca
     → IsNodeOf (named_by layout root) a → IsHomeOrAbove layout (Ask (types.MountBelow root path) caller) a
     → IsCallOn layout (volume_around a) (call_on layout a caller moment (types.MountBelow root path)) caller moment
 on-a-root layout a root path caller moment at tried = record {
+  called = refl;
   good = at.names;
   under = at.above;
   tried = tried;
   served = λ server volume count there.
-      ap (λ o. on_root server 0 o (mount_below (parts_below path)))
+      ap (λ o. on_root server 0 o (mount_below (parts_below path) caller))
       (located-there layout server volume (volume_around a) (fileid_in (named_by layout root)) root count there at.names);
 }
 
@@ -139,7 +142,9 @@ on-both layout a from from_name to to_name caller moment is tried =
     let from_home = at-logical (named_by layout from) a both.0 in
     let to_home = at-logical (named_by layout to) a both.1 in
     let call : types.Call = types.Rename from from_name to to_name in
-    let run = λ (volume : VolumeState) (fileid other : ℕ). once caller call moment volume (rename from_name to_name moment volume fileid other) in record {
+    let run = λ (volume : VolumeState) (fileid other : ℕ).
+    once caller call moment volume (permitted_two caller call (rename from_name to_name moment) volume fileid other) in record {
+      called = refl;
       good = from_home.names;
       under = from_home.above;
       tried = tried;
@@ -256,7 +261,7 @@ module _ {P : Type 0} (layout : Layout) (lawful : fault_of layout ≡ None) (cal
 moves-up : (a : Affinity) (parts : Parts) (r : Option Ready) (other : Affinity) → move_if (Some parts) a r ≡ Some other
     → (other ≡ Logical (volume_around a)) ⊎ (other ≡ Volume (volume_around a))
 moves-up a parts None other e = absurd cc
-moves-up (Stripe v i) parts (Some r) other e = by (r.extends || nat_lt 0 r.need) e
+moves-up (Stripe v i) parts (Some r) other e = by (r.extends || r.clears || nat_lt 0 r.need) e
   where
     by : (b : Bool) → (if b then Some (Logical v) else None) ≡ Some other → (other ≡ Logical v) ⊎ (other ≡ Volume v)
     by true is = inl cc
@@ -299,7 +304,7 @@ moved-there layout a caller moment (calls.Write handle offset count bytes) there
     let v : ℕ = volume_around a in
     let c = call_on layout a caller moment (call_of (calls.Write handle offset count bytes)) in
     let up : (other ≡ Logical v) ⊎ (other ≡ Volume v) =
-    moves-up a (parts_of p) (ready_at (Some (located_on c p)) offset count (length bytes)) other e in (
+    moves-up a (parts_of p) (ready_at (Some (located_on c p)) caller offset count (length bytes)) other e in (
       node-above layout v other (node-within layout a v here.above there) up,
       (tt, inr (subst (λ (named : Option Named). RunsAbove named other) (sym here.names) up)),
     )

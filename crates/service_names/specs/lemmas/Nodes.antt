@@ -6,6 +6,7 @@ use Rattle.std.proofs.Math.Nat.{mul-le-mul_left}
 use Rattle.std.specs.Prelude.{is_some, IsSome}
 use Rattle.std.specs.Option.{option_map}
 use Rattle.std.specs.FinMap.{get}
+use Rattle.nfs_model.specs.Server.{root_of_root}
 use Rattle.nfs_model.specs.Parts.{Hand, one_if, times_listed, most_ranges}
 use Rattle.nfs_model.specs.volume.Directories.{DirectoryValue}
 use Rattle.nfs_model.specs.volume.Inodes.{Inode}
@@ -48,7 +49,7 @@ module _ (p : VolumeContents) (hands : List Hand) (made : ℕ) (sound : IsSound 
   numbers-fit : (fileid size : ℕ) → AreNumbers size_here (all_freed fileid size p.stripes)
   numbers-fit fileid size = are-numbers size_here (all_freed fileid size p.stripes) (λ n some.
       let once = sound.partition n in
-      let all = freed-times fileid size n p.stripes in
+      let all = freed-times fileid size root_of_root n p.stripes in
       let within = in-sixteen in
       ⊎_elim (λ (less : n < size_here * ranges_used p.ranges). omega (arith, less, within))
       (λ (more : size_here * ranges_used p.ranges ≤ n).

@@ -5,7 +5,7 @@ use Rattle.std.proofs.lemmas.Bool.{and_parts, and_from}
 use Rattle.std.specs.Prelude.{slice_get, if◌then◌else◌, nat_lt, length, ◌==◌}
 use Rattle.std.specs.FinSet.{len}
 use mathlib.Core.Option.{some-injective}
-use Rattle.nfs_model.specs.Types.{Call, Asked, Ask, Refused, Undecoded, Reply, SystemError}
+use Rattle.nfs_model.specs.Types.{Call, Caller, Asked, Ask, Refused, Undecoded, Reply, SystemError}
 use Rattle.nfs_model.specs.Types as types
 use Rattle.nfs_model.specs.Tree.{Layout, Affinity, Serial, Aggregate, Volume, Logical, Stripe, Vbn, Range, path, begins, aggregate_of}
 use Rattle.nfs_model.specs.Parts.{Parts}
@@ -60,7 +60,7 @@ module _ (setup : Setup) (home : Affinity) where
 
   by-moves : (parts : Option Parts) (a b : Affinity) (ready : Ready) → move_by parts a ready ≡ Some b → IsAbove a → IsAbove b
   by-moves parts (Stripe v i) b ready moved above =
-      subst IsAbove (moved-there (ready.extends || nat_lt 0 ready.need) (Logical v) b moved)
+      subst IsAbove (moved-there (ready.extends || ready.clears || nat_lt 0 ready.need) (Logical v) b moved)
       (begins-front (aggregate_of setup.layout v ∷ v ∷ 0 ∷ []) (i ∷ []) (path setup.layout home) above)
   by-moves None Serial b ready moved above = absurd cc
   by-moves None (Aggregate a) b ready moved above = absurd cc
@@ -82,10 +82,10 @@ module _ (setup : Setup) (home : Affinity) where
   if-moves parts a b None moved above = absurd cc
   if-moves parts a b (Some ready) moved above = by-moves parts a b ready moved above
 
-  call-moves : (store : Store) (a b : Affinity) (call : Call) → move_of_call store a call ≡ Some b → IsAbove a → IsAbove b
-  call-moves store a b (types.Write handle offset count written) moved above =
-      if-moves (parts_at store.parts (volume_above a)) a b (ready_at (locate store.server handle) offset count (length written)) moved above
-  call-moves store a b call moved above = absurd cc
+  call-moves : (store : Store) (a b : Affinity) (call : Call) (caller : Caller) → move_of_call store a call caller ≡ Some b → IsAbove a → IsAbove b
+  call-moves store a b (types.Write handle offset count written) caller moved above =
+      if-moves (parts_at store.parts (volume_above a)) a b (ready_at (locate store.server handle) caller offset count (length written)) moved above
+  call-moves store a b call caller moved above = absurd cc
 
 -- where a task moves is above its home
 moves-up : (setup : Setup) (store : Store) (task : Task) (to : Affinity) → move_of store task ≡ Some to
@@ -94,7 +94,7 @@ moves-up setup store task to moved tried = (tried.0, tried.1, by task.asked move
   where
     by : (asked : Asked) → move_of_asked store task.affinity asked ≡ Some to
         → IsTrue (begins (path setup.layout to) (path setup.layout tried.0))
-    by (Ask call caller) e = call-moves setup tried.0 store task.affinity to call e tried.2
+    by (Ask call caller) e = call-moves setup tried.0 store task.affinity to call caller e tried.2
     by (Refused reply) e = absurd cc
     by Undecoded e = absurd cc
 

@@ -13,7 +13,7 @@ use Rattle.nfs_model.specs.volume.lemmas.Numbered.{get-changed_at}
 use Rattle.filer_state.specs.state.Tree.{stripe_at, file_bytes, file_filled, file_touch, later}
 use Rattle.filer_state.specs.state.Names.{InodeMap, DirectoryMap, size_in, size_of, parent_in, parent_directory, subdirectories_in, subdirectories_of}
 use Rattle.filer_state.specs.state.Names.{AreNamed}
-use Rattle.filer_state.specs.state.WellFormed.{size_shown}
+use Rattle.filer_state.specs.state.WellFormed.{size_shown, owner_shown}
 use Rattle.filer_state.specs.state.Changes.{touches_taken}
 use Rattle.filer_state.specs.laws.lemmas.SameBlocks as blocks
 use Rattle.filer_state.specs.laws.lemmas.SameNames as names
@@ -33,7 +33,7 @@ module _ (f : ℕ) where
     where
       by : (b : Bool) (o : Option Card) → touch_of (if b then option_map card_settled o else get s.cards q) ≡ (if b then None else touch_of (get s.cards q))
       by true None = refl
-      by true (Some (OfFile size touch)) = refl
+      by true (Some (OfFile size touch owner)) = refl
       by true (Some OfDirectory) = refl
       by false o = refl
 
@@ -52,7 +52,7 @@ module _ (f : ℕ) where
   shown-stays s q = ap (option_map size_shown) (get-changed_at card_settled f s.cards q) ∙ by (q == f) refl (get s.cards f) refl
     where
       card : (c : Card) → size_shown (card_settled c) ≡ size_shown c
-      card (OfFile size touch) = refl
+      card (OfFile size touch owner) = refl
       card OfDirectory = refl
 
       there : (o : Option Card) → option_map size_shown (option_map card_settled o) ≡ option_map size_shown o
@@ -62,6 +62,23 @@ module _ (f : ℕ) where
       by : (b : Bool) → (q == f) ≡ b → (o : Option Card) → get s.cards f ≡ o
           → option_map size_shown (if b then option_map card_settled o else get s.cards q) ≡ option_map size_shown (get s.cards q)
       by true e o is = there o ∙ ap (option_map size_shown) (sym is ∙ ap (get s.cards) (sym (eqb-true q f e)))
+      by false e o is = refl
+
+  -- and its owner
+  pub owner-stays : (s : StripeValue) (q : ℕ) → option_map owner_shown (get (touch_taken f s).cards q) ≡ option_map owner_shown (get s.cards q)
+  owner-stays s q = ap (option_map owner_shown) (get-changed_at card_settled f s.cards q) ∙ by (q == f) refl (get s.cards f) refl
+    where
+      card : (c : Card) → owner_shown (card_settled c) ≡ owner_shown c
+      card (OfFile size touch owner) = refl
+      card OfDirectory = refl
+
+      there : (o : Option Card) → option_map owner_shown (option_map card_settled o) ≡ option_map owner_shown o
+      there None = refl
+      there (Some c) = ap Some (card c)
+
+      by : (b : Bool) → (q == f) ≡ b → (o : Option Card) → get s.cards f ≡ o
+          → option_map owner_shown (if b then option_map card_settled o else get s.cards q) ≡ option_map owner_shown (get s.cards q)
+      by true e o is = there o ∙ ap (option_map owner_shown) (sym is ∙ ap (get s.cards) (sym (eqb-true q f e)))
       by false e o is = refl
 
   pub stripe-taken : (stripes : List StripeValue) (i : ℕ) → i < length stripes → stripe_at (touches_taken f stripes) i ≡ touch_taken f (stripe_at stripes i)

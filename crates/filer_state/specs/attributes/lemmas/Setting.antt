@@ -1,112 +1,49 @@
 -- A node that settles and has an inode set of the same kind: all stays sound, and the volume has the node with the inode's
 -- attributes.
-use Rattle.std.proofs.Common.{◌≡◌, ℕ, ◌+◌, ◌<◌, ◌≤◌, ◌==◌, Bool, true, false, List, length, Option, Some, None}
-use Rattle.std.proofs.Common.{refl, sym, ap, ◌∙◌, subst, arith}
-use Rattle.std.specs.Prelude.{if◌then◌else◌, IfSome}
-use Rattle.std.proofs.lemmas.List.{length-map}
-use Rattle.std.proofs.lemmas.Bool.{eqb-true}
-use Rattle.std.specs.Option.{option_map}
-use Rattle.std.specs.FinMap.{get, len, insert}
-use Rattle.std.specs.FinSet as sets
-use Rattle.std.specs.Cmp.{nat_cmp_total}
-use Rattle.std.specs.FinMap.{nat_cmp-IsAntisymmetric}
+use Rattle.std.proofs.Common.{◌≡◌, ℕ, ◌+◌, List, Some, refl, ◌∙◌}
+use Rattle.std.specs.FinMap.{get, insert}
+use Rattle.nfs_model.specs.Types.{Ownership}
 use Rattle.nfs_model.specs.Server.{Attributes, Node, File, Directory}
+use Rattle.nfs_model.specs.Serial.Rights.{ownership_of}
 use Rattle.nfs_model.specs.Shown.{settled}
 use Rattle.nfs_model.specs.Parts.{Hand}
 use Rattle.depot_rule.specs.Sums.{total}
-use Rattle.nfs_model.specs.volume.Maps.{map_values}
-use Rattle.nfs_model.specs.volume.Inodes.{InodeKind, RegularFile, DirectoryKind, Inode, InodesValue, filled_blocks, inode_of, inode_set}
-use Rattle.nfs_model.specs.volume.Stripes.{StripeValue, touch_taken}
-use Rattle.nfs_model.specs.volume.lemmas.Inodes.{inode-set-there, inode-set-other, next-set, used-set-same, len-set, set-is}
-use Rattle.nfs_model.specs.volume.lemmas.Maps.{get-map_values}
-use Rattle.nfs_model.specs.volume.lemmas.Numbered.{get-insert_at, same-answers}
+use Rattle.nfs_model.specs.volume.Maps.{map_values, changed_at}
+use Rattle.nfs_model.specs.volume.Inodes.{InodeKind, RegularFile, DirectoryKind, Inode, InodesValue, inode_of, inode_set}
+use Rattle.nfs_model.specs.volume.Stripes.{StripeValue, card_settled, touch_taken}
 use Rattle.filer_state.specs.state.Contents.{VolumeContents}
-use Rattle.filer_state.specs.state.Tree.{stripe_at, file_filled, node_by, node_of}
+use Rattle.filer_state.specs.state.Tree.{node_by, node_of}
 use Rattle.filer_state.specs.state.Names.{DirectoryMap}
-use Rattle.filer_state.specs.state.WellFormed.{StripeFits, WellFormed}
-use Rattle.filer_state.specs.state.Partition.{times_in_stripe, times_in_hand}
+use Rattle.filer_state.specs.state.Partition.{times_in_hand}
 use Rattle.filer_state.specs.state.Sound.{IsSound}
 use Rattle.filer_state.specs.state.Lenses.{logical_lens}
-use Rattle.filer_state.specs.state.Changes.{touches_taken, node_set}
-use Rattle.filer_state.specs.attributes.lemmas.Kept.{SameKinds, set-kinds, named-same, size-same, shown-same, shown-stays, stripe-taken, total-taken}
-use Rattle.filer_state.specs.attributes.lemmas.Kept.{filled-stays, bytes-stay, touch-gone, touch-stays}
+use Rattle.filer_state.specs.state.Changes.{stripes_settled, node_set}
+use Rattle.filer_state.specs.laws.lemmas.Steps.{sound-later}
+use Rattle.filer_state.specs.attributes.lemmas.Kept.{owner-stays}
+use Rattle.filer_state.specs.attributes.lemmas.Settled.{shown-stays, filled-stays, bytes-stay, touch-gone, touch-stays}
+use Rattle.filer_state.specs.attributes.lemmas.Changed.{CardMap, OwnersFit, with_cards, sound-changed, nodes-changed}
+use Rattle.filer_state.specs.attributes.lemmas.Owned.{cards_owned, owners-after}
 
 -- the volume after it
 abbrev pub set_in : ℕ → Inode → VolumeContents → VolumeContents
 set_in f inode p = logical_lens.put (node_set f inode (logical_lens.of p)) p
 
+-- cards of a file's owner, without the touch
+abbrev cards_settled : ℕ → Ownership → CardMap → CardMap
+cards_settled f owner cards = cards_owned f owner (changed_at card_settled f cards)
+
 module _ (p : VolumeContents) (f : ℕ) (old inode : Inode) (there : get p.logical.inodes.inodes f ≡ Some old) (same : inode.kind ≡ old.kind) where
-  kinds : SameKinds (inode_set f inode p.logical.inodes).inodes p.logical.inodes.inodes
-  kinds = set-kinds p.logical.inodes f old inode there same
-
-  fits-still : (i : ℕ) (s : StripeValue) → StripeFits p.logical i s → StripeFits (set_in f inode p).logical i (touch_taken f s)
-  fits-still i s fits = record {
-    verifier = fits.verifier;
-    stripes = fits.stripes;
-    largest = fits.largest;
-    cards = λ q. shown-stays f s q ∙ fits.cards q
-        ∙ sym (shown-same (get (inode_set f inode p.logical.inodes).inodes q) (get p.logical.inodes.inodes q) (kinds q));
-    long = record { long = fits.long.long };
-    blocks = λ fileid block b e.
-        let was = fits.blocks fileid block b e in
-        (was.0, size-same (get (inode_set f inode p.logical.inodes).inodes fileid) (get p.logical.inodes.inodes fileid) (kinds fileid) ∙ was.1, was.2);
-  }
-
-  filled-count : WellFormed p → (q : ℕ) (x : Inode) → get (inode_set f inode p.logical.inodes).inodes q ≡ Some x
-      → filled_blocks x.kind ≡ sets.len (file_filled (touches_taken f p.stripes) q)
-  filled-count well q x e = by (q == f) refl ∙ ap sets.len (sym (filled-stays f p.stripes q))
-    where
-      by : (b : Bool) → (q == f) ≡ b → filled_blocks x.kind ≡ sets.len (file_filled p.stripes q)
-      by true h =
-          let is : q ≡ f = eqb-true q f h in
-          let found : get (inode_set f inode p.logical.inodes).inodes q ≡ Some inode =
-          ap (get (inode_set f inode p.logical.inodes).inodes) is ∙ inode-set-there p.logical.inodes f old inode there in
-          let value : x ≡ inode = (let s = sym e ∙ found in cc) in
-          ap (λ (i : Inode). filled_blocks i.kind) value ∙ ap filled_blocks same ∙ well.filled f old there
-          ∙ ap (λ (k : ℕ). sets.len (file_filled p.stripes k)) (sym is)
-      by false h = well.filled q x (sym (inode-set-other p.logical.inodes f inode q h) ∙ e)
-
-  well-set : WellFormed p → WellFormed (set_in f inode p)
-  well-set well = record {
-    striped = well.striped;
-    largest = well.largest;
-    most_inodes = well.most_inodes;
-    size = well.size;
-    logical = record {
-      inodes = set-is p.logical.inodes f inode well.logical.inodes;
-      few = let size = len-set p.logical.inodes f inode in let few = well.logical.few in omega arith;
-      sizes = λ q. subst (λ o. IfSome o (λ size. size ≤ p.logical.largest))
-          (sym (size-same (get (inode_set f inode p.logical.inodes).inodes q) (get p.logical.inodes.inodes q) (kinds q))) (well.logical.sizes q);
-      named = named-same (inode_set f inode p.logical.inodes).inodes p.logical.inodes.inodes kinds p.logical.directories well.logical.named;
-    };
-    as_many = length-map p.stripes (touch_taken f) ∙ well.as_many;
-    stripes = λ i less.
-        let long = length-map p.stripes (touch_taken f) in
-        let on : i < length p.stripes = omega arith in
-        subst (StripeFits (set_in f inode p).logical i) (sym (stripe-taken f p.stripes i on)) (fits-still i (stripe_at p.stripes i) (well.stripes i on));
-    used = used-set-same p.logical.inodes f old inode well.logical.inodes there (ap filled_blocks same) ∙ well.used
-        ∙ sym (total-taken f (λ (s : StripeValue). len s.blocks) (λ s. refl) p.stripes);
-    filled = filled-count well;
-    sixteen = well.sixteen;
-    some = well.some;
-    ranges = well.ranges;
-  }
+  owners-settled : (s : StripeValue) → OwnersFit p.logical.inodes s
+      → OwnersFit (inode_set f inode p.logical.inodes) (with_cards (cards_settled f (ownership_of inode.attributes)) s)
+  owners-settled s fits = owners-after p f old inode there same (touch_taken f s) (λ q. owner-stays f s q ∙ fits q)
 
   -- all stays sound
   pub sound-set : (hands hands' : List Hand) (made : ℕ) → ((n : ℕ) → total (times_in_hand p.number n) hands' ≡ total (times_in_hand p.number n) hands)
       → IsSound p hands made → IsSound (set_in f inode p) hands' (made + 1)
-  sound-set hands hands' made weigh s = record {
-    well_formed = well-set s.well_formed;
-    young = record {
-      fileids = (let next = next-set p.logical.inodes f inode in let y = s.young.fileids in omega arith);
-      cookies = λ fileid d e. let y = s.young.cookies fileid d e in omega arith;
-    };
-    partition = λ n.
-        let e = weigh n in
-        let o = s.partition n in
-        let stripes = total-taken f (times_in_stripe n) (λ t. refl) p.stripes in
-        omega (arith, e, o, stripes);
-  }
+  sound-set hands hands' made weigh s =
+      sound-later (set_in f inode p) hands hands' made weigh
+      (sound-changed p f old inode there same (cards_settled f (ownership_of inode.attributes)) (shown-stays f (ownership_of inode.attributes))
+      owners-settled hands made s)
 
 -- ---- the node
 
@@ -115,54 +52,24 @@ abbrev pub with_attributes : Attributes → Node → Node
 with_attributes a (File g) = File (record (settled g) { attributes = a })
 with_attributes a (Directory d) = Directory (record d { attributes = a })
 
-module _ (stripes : List StripeValue) (directories : DirectoryMap) (f : ℕ) where
+module _ (stripes : List StripeValue) (directories : DirectoryMap) (f : ℕ) (owner : Ownership) where
   abbrev taken : List StripeValue
-  taken = touches_taken f stripes
+  taken = stripes_settled f owner stripes
 
   pub this-node : (a b : Attributes) (kind : InodeKind)
       → node_by taken (get directories f) f a kind ≡ with_attributes a (node_by stripes (get directories f) f b kind)
   this-node a b (RegularFile size filled verifier) = λ j. File (record {
     attributes = a;
-    bytes = bytes-stay f stripes f size j;
-    filled = filled-stays f stripes f j;
-    touch = touch-gone f stripes j;
+    bytes = bytes-stay f owner stripes f size j;
+    filled = filled-stays f owner stripes f j;
+    touch = touch-gone f owner stripes j;
     verifier = verifier;
   })
   this-node a b (DirectoryKind parent subdirectories) = refl
-
-  other-node : (q : ℕ) → (q == f) ≡ false → (a : Attributes) (kind : InodeKind)
-      → node_by taken (get directories q) q a kind ≡ node_by stripes (get directories q) q a kind
-  other-node q ne a (RegularFile size filled verifier) = λ j. File (record {
-    attributes = a;
-    bytes = bytes-stay f stripes q size j;
-    filled = filled-stays f stripes q j;
-    touch = touch-stays f stripes q ne j;
-    verifier = verifier;
-  })
-  other-node q ne a (DirectoryKind parent subdirectories) = refl
 
   -- the nodes, where the inode is set
   pub nodes-set : (v : InodesValue) (old inode : Inode) → inode_of v f ≡ Some old → inode.kind ≡ old.kind
       → map_values (node_of taken directories) (inode_set f inode v).inodes
       ≡ insert (map_values (node_of stripes directories) v.inodes) f (with_attributes inode.attributes (node_of stripes directories f old))
-  nodes-set v old inode there same = same-answers _ _ (λ q.
-      get-map_values nat_cmp_total nat_cmp-IsAntisymmetric (node_of taken directories) (inode_set f inode v).inodes q
-      ∙ by q (q == f) refl
-      ∙ sym (get-insert_at (map_values (node_of stripes directories) v.inodes) f (with_attributes inode.attributes (node_of stripes directories f old)) q))
-    where
-      other : (q : ℕ) (o : Option Inode) → (q == f) ≡ false → option_map (node_of taken directories q) o ≡ option_map (node_of stripes directories q) o
-      other q None ne = refl
-      other q (Some x) ne = ap Some (other-node q ne x.attributes x.kind)
-
-      by : (q : ℕ) (b : Bool) → (q == f) ≡ b → option_map (node_of taken directories q) (get (inode_set f inode v).inodes q)
-          ≡ (if b then Some (with_attributes inode.attributes (node_of stripes directories f old)) else get (map_values
-          (node_of stripes directories) v.inodes) q)
-      by q true h =
-          ap (λ (k : ℕ). option_map (node_of taken directories k) (get (inode_set f inode v).inodes k)) (eqb-true q f h)
-          ∙ ap (option_map (node_of taken directories f)) (inode-set-there v f old inode there)
-          ∙ ap Some (this-node inode.attributes old.attributes inode.kind
-          ∙ ap (λ k. with_attributes inode.attributes (node_by stripes (get directories f) f old.attributes k)) same)
-      by q false h =
-          ap (option_map (node_of taken directories q)) (inode-set-other v f inode q h)
-          ∙ other q (get v.inodes q) h
-          ∙ sym (get-map_values nat_cmp_total nat_cmp-IsAntisymmetric (node_of stripes directories) v.inodes q)
+  nodes-set =
+      nodes-changed stripes directories f (cards_settled f owner) with_attributes this-node (λ q ne. touch-stays f owner stripes q ne)

@@ -18,9 +18,9 @@ use Rattle.nfs_model.specs.volume.Inodes.{InodeKind, RegularFile, DirectoryKind,
 use Rattle.filer_state.specs.state.Contents.{VolumeContents}
 use Rattle.filer_state.specs.state.Tree.{node_by, node_of, volume_of}
 use Rattle.filer_state.specs.state.Partition.{parts_of}
-use Rattle.filer_state.specs.state.Calls.{VolumeCall, located_on, move_on}
+use Rattle.filer_state.specs.state.Calls.{VolumeCall, unasked, located_on, move_on}
 use Rattle.filer_state.specs.attributes.lemmas.Getting.{node-at}
-use Rattle.filer_state.specs.bytes.WritingLaws.{write_call}
+use Rattle.filer_state.specs.bytes.WritingLaws.{plain, write_call}
 use Rattle.filer_state.specs.bytes.WritingUp.{file_due, kind_due, bytes_due}
 use Rattle.filer_state.specs.bytes.lemmas.WrittenNodes.{file_before}
 
@@ -34,6 +34,7 @@ abbrev pub ready_of : VolumeContents → ℕ → Writing → FileNode → Ready
 ready_of p f w file = record {
   need = need file w.offset (length (bytes_kept w));
   extends = nat_lt (length file.bytes) (w.offset + length (bytes_kept w));
+  clears = false;
   fits = is_none (space_fault (volume_of p) file w.offset (length (bytes_kept w)));
 }
 
@@ -43,6 +44,10 @@ module _ (p : VolumeContents) (f : ℕ) (handle : List ℕ) (w : Writing) (node 
 
   abbrev seen : VolumeState
   seen = volume_of p
+
+  -- what there is to know of it at a node, if it passes the checks
+  abbrev pub ready_on : Option Node → Option Ready
+  ready_on x = ready (Some (located_on call p)) x unasked w.offset w.count (length w.written)
 
   -- at least one byte is to be written to a file
   pub record SomeBytes : Type 0 where
@@ -57,24 +62,22 @@ module _ (p : VolumeContents) (f : ℕ) (handle : List ℕ) (w : Writing) (node 
     pub node_is : get seen.nodes f ≡ Some (File (file_before p f inode size verifier))
     pub run : call.run seen ≡ unless (space_fault seen (file_before p f inode size verifier) w.offset (length (bytes_kept w)))
         (change_of p f w (file_before p f inode size verifier))
+    pub is_ready : ready_on (get seen.nodes f) ≡ Some (ready_of p f w (file_before p f inode size verifier))
     pub moved : move_on call p ≡ move_by (Some (parts_of p)) node (ready_of p f w (file_before p f inode size verifier))
 
   abbrev pub Checked : Result ℕ Status → Type 0
-  Checked (Err status) = (move_on call p ≡ None) × (call.run seen ≡ Fails status)
-  Checked (Ok zero) = (move_on call p ≡ None) × (call.run seen ≡ Tells (WriteDone 0 p.logical.verifier))
+  Checked (Err status) = (ready_on (get seen.nodes f) ≡ None) × (call.run seen ≡ Fails status)
+  Checked (Ok zero) = (ready_on (get seen.nodes f) ≡ None) × (call.run seen ≡ Tells (WriteDone 0 p.logical.verifier))
   Checked (Ok (suc n)) = SomeBytes
 
   -- ---- by the node
 
-  abbrev moves : Option Node → Option Affinity
-  moves x = move_if (Some (parts_of p)) node (ready (Some (located_on call p)) x w.offset w.count (length w.written))
-
   abbrev effect : Option Node → Effect
   effect x = on_file x (λ g. if not (w.count == length w.written) then Fails Invalid
-      else if w.count == 0 then Tells (WriteDone 0 seen.verifier) else write_some seen f g w)
+      else if w.count == 0 then Tells (WriteDone 0 seen.verifier) else write_some seen f g (plain w))
 
-  no-file : (x : Option Node) (status : Status) → get seen.nodes f ≡ x → moves x ≡ None → effect x ≡ Fails status → Checked (Err status)
-  no-file x status is stays run = (ap moves is ∙ stays, ap effect is ∙ run)
+  no-file : (x : Option Node) (status : Status) → get seen.nodes f ≡ x → ready_on x ≡ None → effect x ≡ Fails status → Checked (Err status)
+  no-file x status is none run = (ap ready_on is ∙ none, ap effect is ∙ run)
 
   -- ---- a file
 
@@ -100,22 +103,27 @@ module _ (p : VolumeContents) (f : ℕ) (handle : List ℕ) (w : Writing) (node 
     -- ---- by the checks
 
     abbrev ran : Bool → Bool → Effect
-    ran b t = if not b then Fails Invalid else if t then Tells (WriteDone 0 seen.verifier) else write_some seen f file w
+    ran b t = if not b then Fails Invalid else if t then Tells (WriteDone 0 seen.verifier) else write_some seen f file (plain w)
 
-    abbrev went : Bool → Bool → ℕ → Option Affinity
-    went b t k = move_if (Some (parts_of p)) node (if not b then None else if t then None else ready_bytes seen file w.offset k)
+    abbrev known : Bool → Bool → ℕ → Option Ready
+    known b t k = if not b then None else if t then None else ready_bytes seen unasked file w.offset k
 
     abbrev told_if : Bool → Effect
     told_if b = unless (if b then Some TooBig else None) (unless (space_fault seen file w.offset n) (change_of p f w file))
 
-    abbrev moved_if : Bool → Option Affinity
-    moved_if b = move_if (Some (parts_of p)) node (if is_some (if b then Some TooBig else None) then None else Some (ready_of p f w file))
+    abbrev known_if : Bool → Option Ready
+    known_if b = if is_some (if b then Some TooBig else None) then None else Some (ready_of p f w file)
 
     runs : call.run seen ≡ ran (w.count == length w.written) (w.count == 0)
     runs = ap effect node-is
 
-    stays : move_on call p ≡ went (w.count == length w.written) (w.count == 0) (min w.count most_bytes)
-    stays = ap moves node-is
+    knows : ready_on (get seen.nodes f) ≡ known (w.count == length w.written) (w.count == 0) (min w.count most_bytes)
+    knows = ap ready_on node-is
+
+    -- where it passes the checks
+    passes : (w.count == length w.written) ≡ true → (w.count == 0) ≡ false → nat_lt p.logical.largest (w.offset + n) ≡ false
+        → ready_on (get seen.nodes f) ≡ Some (ready_of p f w file)
+    passes e h past = knows ∙ (λ j. known (e j) (h j) (as-many e j)) ∙ ap known_if past
 
     -- at least one byte, within the largest size
     some-bytes : (k : ℕ) → n ≡ k → (w.count == length w.written) ≡ true → (w.count == 0) ≡ false
@@ -136,7 +144,8 @@ module _ (p : VolumeContents) (f : ℕ) (handle : List ℕ) (w : Writing) (node 
       fits = past;
       node_is = node-is;
       run = runs ∙ (λ j. ran (e j) (h j)) ∙ ap told_if past;
-      moved = stays ∙ (λ j. went (e j) (h j) (as-many e j)) ∙ ap moved_if past;
+      is_ready = passes e h past;
+      moved = ap (move_if (Some (parts_of p)) node) (passes e h past);
     }
 
     by-checks : Checked (file_due p.logical.largest w)
@@ -146,12 +155,12 @@ module _ (p : VolumeContents) (f : ℕ) (handle : List ℕ) (w : Writing) (node 
             → (c : Bool) → nat_lt p.logical.largest (w.offset + n) ≡ c
             → Checked (if not b then Err Invalid else if t then Ok 0 else if c then Err TooBig else Ok n)
         by false e t h c past = (
-          stays ∙ ap (λ (b : Bool). went b (w.count == 0) (min w.count most_bytes)) e,
+          knows ∙ ap (λ (b : Bool). known b (w.count == 0) (min w.count most_bytes)) e,
           runs ∙ ap (λ (b : Bool). ran b (w.count == 0)) e,
         )
-        by true e true h c past = (stays ∙ (λ j. went (e j) (h j) (min w.count most_bytes)), runs ∙ (λ j. ran (e j) (h j)))
+        by true e true h c past = (knows ∙ (λ j. known (e j) (h j) (min w.count most_bytes)), runs ∙ (λ j. ran (e j) (h j)))
         by true e false h true past = (
-          stays ∙ (λ j. went (e j) (h j) (as-many e j)) ∙ ap moved_if past,
+          knows ∙ (λ j. known (e j) (h j) (as-many e j)) ∙ ap known_if past,
           runs ∙ (λ j. ran (e j) (h j)) ∙ ap told_if past,
         )
         by true e false h false past = some-bytes n refl e h past

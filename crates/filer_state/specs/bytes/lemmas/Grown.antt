@@ -13,7 +13,7 @@ use Rattle.nfs_model.specs.volume.lemmas.Numbered.{get-changed_at, itself}
 use Rattle.filer_state.specs.state.Contents.{VolumeContents}
 use Rattle.filer_state.specs.state.Tree.{stripe_at, home_stripe, file_byte, file_filled, file_touch}
 use Rattle.filer_state.specs.state.Names.{size_in, size_of}
-use Rattle.filer_state.specs.state.WellFormed.{BlockFits, WellFormed, size_shown}
+use Rattle.filer_state.specs.state.WellFormed.{BlockFits, WellFormed, size_shown, owner_shown}
 use Rattle.filer_state.specs.laws.lemmas.SameBlocks.{stripe-mapped, total-mapped, filled-stays, homes-stay}
 use Rattle.filer_state.specs.bytes.Extending.{card_grown, stripe_grown}
 use Rattle.filer_state.specs.bytes.lemmas.Refiled.{Refits, Refiles, touch-alike}
@@ -35,7 +35,7 @@ module _ (f end : ℕ) (s : StripeValue) where
     where
       by : (o : Option Card) → touch_of (option_map (card_grown end) o) ≡ touch_of o
       by None = refl
-      by (Some (OfFile n touch)) = refl
+      by (Some (OfFile n touch owner)) = refl
       by (Some OfDirectory) = refl
 
   -- a card that shows a size
@@ -46,8 +46,16 @@ module _ (f end : ℕ) (s : StripeValue) where
       by : (o : Option Card) → option_map size_shown o ≡ Some (Some size)
           → option_map size_shown (option_map (card_grown end) o) ≡ Some (Some (max size end))
       by None h = absurd cc
-      by (Some (OfFile n touch)) h = let same : n ≡ size = cc in ap (λ (k : ℕ). Some (Some (max k end))) same
+      by (Some (OfFile n touch owner)) h = let same : n ≡ size = cc in ap (λ (k : ℕ). Some (Some (max k end))) same
       by (Some OfDirectory) h = absurd cc
+
+  owner-here : option_map owner_shown (get (stripe_grown f end s).cards f) ≡ option_map owner_shown (get s.cards f)
+  owner-here = ap (option_map owner_shown) card-here ∙ by (get s.cards f)
+    where
+      by : (o : Option Card) → option_map owner_shown (option_map (card_grown end) o) ≡ option_map owner_shown o
+      by None = refl
+      by (Some (OfFile n touch owner)) = refl
+      by (Some OfDirectory) = refl
 
 -- ---- the volume
 
@@ -80,6 +88,7 @@ module _ (p : VolumeContents) (f end : ℕ) (inode : Inode) (size blocks : ℕ) 
     striped = refl;
     largest = refl;
     card = shown-here f end (stripe_at p.stripes i) size (card-shows i on);
+    owner = owner-here f end (stripe_at p.stripes i);
     cards = card-other f end (stripe_at p.stripes i);
     blocks = λ q block ne. refl;
     own = λ block b e.

@@ -87,6 +87,7 @@ module _ (p : VolumeContents) (f b n : ℕ) (inode : Inode) (size blocks : ℕ) 
     striped = refl;
     largest = refl;
     card = card-shows p f 0 inode size blocks verifier there is_file well i on;
+    owner = refl;
     cards = λ q ne. refl;
     blocks = λ q block ne. insert-other f b n was q block ne;
     own = own-now;
@@ -98,6 +99,7 @@ module _ (p : VolumeContents) (f b n : ℕ) (inode : Inode) (size blocks : ℕ) 
     striped = refl;
     largest = refl;
     card = card-shows p f 0 inode size blocks verifier there is_file well k less;
+    owner = refl;
     cards = λ q ne. refl;
     blocks = λ q block ne. refl;
     own = own-block p f 0 inode size blocks verifier there is_file well k less;

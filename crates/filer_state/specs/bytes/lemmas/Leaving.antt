@@ -103,6 +103,7 @@ well-restocked p stock dead well = record {
     stripes = fits.stripes;
     largest = fits.largest;
     cards = fits.cards;
+    owners = fits.owners;
     long = fits.long;
     blocks = fits.blocks;
   };

@@ -14,7 +14,7 @@ use Rattle.nfs_model.specs.Server.{FileNode, VolumeState, used}
 use Rattle.nfs_model.specs.Locate.{Effect, Fails, Tells}
 use Rattle.nfs_model.specs.Serial.Write.{Writing, bytes_kept}
 use Rattle.nfs_model.specs.Moves.{FilledInLogical}
-use Rattle.nfs_model.specs.Work.{Outcome, Replied, Moved}
+use Rattle.nfs_model.specs.Work.{Outcome, Replied, Moved, move_if}
 use Rattle.depot_rule.specs.Sums.{total}
 use Rattle.filer_state.specs.state.Contents.{VolumeContents}
 use Rattle.filer_state.specs.state.Tree.{volume_of}
@@ -37,7 +37,7 @@ use Rattle.filer_state.specs.bytes.lemmas.Carrying.{listed-count}
 use Rattle.filer_state.specs.bytes.lemmas.WrittenUp.{need-is, volume_written, sound-then, ran-then, seen-then, more-then, once-then, files-then}
 
 -- where nothing is filled no number moves
-filled-none : (parts : Parts) (n : ℕ) → n ≡ 0 → FilledInLogical n parts parts
+pub filled-none : (parts : Parts) (n : ℕ) → n ≡ 0 → FilledInLogical n parts parts
 filled-none parts n none = record {
   stock = record {
     blocks = sets.empty;
@@ -170,10 +170,12 @@ module _ (p : VolumeContents) (f : ℕ) (handle : List ℕ) (w : Writing) (hands
   by-due : (r : Result ℕ Status) → Checked p f handle w (Logical p.number) r → (outcome : Outcome) (new : LogicalSet)
       → DueInLogical r p.number f w old outcome new → Done outcome new
   by-due (Err status) known outcome new told =
-      done-as outcome (Replied (Success (Failed status 2))) new told.0 told.1 (tells (Failed status 2) (Fails status) known.0 known.1 refl refl)
+      done-as outcome (Replied (Success (Failed status 2))) new told.0 told.1
+      (tells (Failed status 2) (Fails status) (ap (move_if (Some (parts_of p)) (Logical p.number)) known.0) known.1 refl refl)
   by-due (Ok zero) known outcome new told =
       done-as outcome (Replied (Success (WriteDone 0 p.logical.verifier))) new told.0 told.1
-      (tells (WriteDone 0 p.logical.verifier) (Tells (WriteDone 0 p.logical.verifier)) known.0 known.1 refl refl)
+      (tells (WriteDone 0 p.logical.verifier) (Tells (WriteDone 0 p.logical.verifier)) (ap (move_if (Some (parts_of p)) (Logical p.number)) known.0)
+      known.1 refl refl)
   by-due (Ok (suc k)) known outcome new told =
       by (nat_lt (len p.logical.stock) (length (holes p.stripes f w.offset (length (bytes_kept w))))) refl told
     where

@@ -6,7 +6,7 @@ use Rattle.std.proofs.lemmas.Bool.{cases_lt, eqb-true}
 use Rattle.std.proofs.lemmas.List.FromFn.{get_or-map-range_with_len, length-map-range_with_len}
 use Rattle.std.specs.Option.{option_map}
 use Rattle.std.specs.FinMap.{get, len, entries}
-use Rattle.nfs_model.specs.Types.{Moment}
+use Rattle.nfs_model.specs.Types.{Moment, Ownership}
 use Rattle.nfs_model.specs.Server.{block_size}
 use Rattle.nfs_model.specs.Parts.{times_listed}
 use Rattle.nfs_model.specs.Shown.{touched}
@@ -15,7 +15,7 @@ use Rattle.nfs_model.specs.volume.Stripes.{byte_written, block_mapped, file_mapp
 use Rattle.nfs_model.specs.volume.lemmas.Entries.{place_total, place_same}
 use Rattle.nfs_model.specs.volume.lemmas.Maps.{get-map_values}
 use Rattle.nfs_model.specs.volume.lemmas.Numbered.{get-changed_at, itself}
-use Rattle.filer_state.specs.state.WellFormed.{size_shown}
+use Rattle.filer_state.specs.state.WellFormed.{size_shown, owner_shown}
 use Rattle.filer_state.specs.state.Partition.{numbers_in}
 use Rattle.filer_state.specs.laws.lemmas.Mapped.{entries-map_values, len-map_values, changed_by}
 use Rattle.filer_state.specs.bytes.lemmas.Patched.{past-list, byte-before, byte-past}
@@ -137,9 +137,9 @@ module _ (f offset : ℕ) (written : List ℕ) (moment : Moment) (s : StripeValu
   pub touch-other : (q : ℕ) → (q == f) ≡ false → touch_of (get after.cards q) ≡ touch_of (get s.cards q)
   touch-other q ne = ap touch_of (card-other q ne)
 
-  pub touch-here : (size : ℕ) (touch : Option Moment) → get s.cards f ≡ Some (OfFile size touch)
+  pub touch-here : (size : ℕ) (touch : Option Moment) (owner : Ownership) → get s.cards f ≡ Some (OfFile size touch owner)
       → touch_of (get after.cards f) ≡ Some (touched (touch_of (get s.cards f)) moment)
-  touch-here size touch is =
+  touch-here size touch owner is =
       ap touch_of (card-here ∙ ap (option_map (card_touched moment)) is) ∙ ap (λ o. Some (touched (touch_of o) moment)) (sym is)
 
   -- what a card shows stays
@@ -147,7 +147,7 @@ module _ (f offset : ℕ) (written : List ℕ) (moment : Moment) (s : StripeValu
   shown-same q = by (q == f) refl
     where
       card : (c : Card) → size_shown (card_touched moment c) ≡ size_shown c
-      card (OfFile size touch) = refl
+      card (OfFile size touch owner) = refl
       card OfDirectory = refl
 
       there : (o : Option Card) → option_map size_shown (option_map (card_touched moment) o) ≡ option_map size_shown o
@@ -160,3 +160,22 @@ module _ (f offset : ℕ) (written : List ℕ) (moment : Moment) (s : StripeValu
           ap (λ (k : ℕ). option_map size_shown (get after.cards k)) is
           ∙ ap (option_map size_shown) card-here ∙ there (get s.cards f) ∙ ap (λ (k : ℕ). option_map size_shown (get s.cards k)) (sym is)
       by false e = ap (option_map size_shown) (card-other q e)
+
+  -- and so does its owner
+  pub owner-same : (q : ℕ) → option_map owner_shown (get after.cards q) ≡ option_map owner_shown (get s.cards q)
+  owner-same q = by (q == f) refl
+    where
+      card : (c : Card) → owner_shown (card_touched moment c) ≡ owner_shown c
+      card (OfFile size touch owner) = refl
+      card OfDirectory = refl
+
+      there : (o : Option Card) → option_map owner_shown (option_map (card_touched moment) o) ≡ option_map owner_shown o
+      there None = refl
+      there (Some c) = ap Some (card c)
+
+      by : (b : Bool) → (q == f) ≡ b → option_map owner_shown (get after.cards q) ≡ option_map owner_shown (get s.cards q)
+      by true e =
+          let is : q ≡ f = eqb-true q f e in
+          ap (λ (k : ℕ). option_map owner_shown (get after.cards k)) is
+          ∙ ap (option_map owner_shown) card-here ∙ there (get s.cards f) ∙ ap (λ (k : ℕ). option_map owner_shown (get s.cards k)) (sym is)
+      by false e = ap (option_map owner_shown) (card-other q e)

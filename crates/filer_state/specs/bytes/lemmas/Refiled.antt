@@ -15,7 +15,7 @@ use Rattle.nfs_model.specs.volume.lemmas.Inodes.{inode-set-there, inode-set-othe
 use Rattle.filer_state.specs.state.Contents.{VolumeContents}
 use Rattle.filer_state.specs.state.Tree.{stripe_at, home_stripe, file_byte, file_filled, file_touch, later, most_file_blocks}
 use Rattle.filer_state.specs.state.Names.{size_in, size_of, parent_directory, subdirectories_of}
-use Rattle.filer_state.specs.state.WellFormed.{StripeFits, BlockFits, WellFormed, size_shown}
+use Rattle.filer_state.specs.state.WellFormed.{StripeFits, BlockFits, WellFormed, size_shown, owner_shown, owner_by, owner_in}
 use Rattle.filer_state.specs.state.Partition.{times_in_stripe, times_in_hand}
 use Rattle.filer_state.specs.state.Sound.{IsSound}
 use Rattle.filer_state.specs.laws.lemmas.SameNames.{SamePlaces, named-same}
@@ -29,12 +29,13 @@ some-stripes p well =
 
 -- ---- a stripe
 
--- what has to hold of the i-th stripe: the card of a file shows the size, its blocks fit it, and all else is as it was
+-- what has to hold of the i-th stripe: the card of a file shows the size and the owner that it had, its blocks fit it, and all else is as it was
 pub record Refits (stripes i f size : ℕ) (s new : StripeValue) : Type 0 where
   pub verifier : new.verifier ≡ s.verifier
   pub striped : new.stripes ≡ s.stripes
   pub largest : new.largest ≡ s.largest
   pub card : option_map size_shown (get new.cards f) ≡ Some (Some size)
+  pub owner : option_map owner_shown (get new.cards f) ≡ option_map owner_shown (get s.cards f)
   pub cards : (q : ℕ) → (q == f) ≡ false → get new.cards q ≡ get s.cards q
   pub blocks : (q block : ℕ) → (q == f) ≡ false → get new.blocks (q, block) ≡ get s.blocks (q, block)
   pub own : (block : ℕ) (b : Block) → get new.blocks (f, block) ≡ Some b → BlockFits stripes i f block size b × (length b.bytes ≡ block_size)
@@ -131,6 +132,10 @@ module _ (p : VolumeContents) (f : ℕ) (inode : Inode) (old_size blocks : ℕ) 
       cards = by-fileid (λ q. option_map size_shown (get t.cards q) ≡ option_map shown_size (inode_of after.logical.inodes q))
           (refits.card ∙ sym (ap (option_map shown_size) at-file))
           (λ q ne. ap (option_map size_shown) (refits.cards q ne) ∙ fits.cards q ∙ sym (ap (option_map shown_size) (at-other q ne)));
+      owners = by-fileid (λ q. option_map owner_shown (get t.cards q) ≡ option_map owner_in (inode_of after.logical.inodes q))
+          (refits.owner ∙ fits.owners f ∙ ap (option_map owner_in) there ∙ ap (λ k. Some (owner_by inode.attributes k)) is_file
+          ∙ sym (ap (option_map owner_in) at-file))
+          (λ q ne. ap (option_map owner_shown) (refits.cards q ne) ∙ fits.owners q ∙ sym (ap (option_map owner_in) (at-other q ne)));
       long = record { long = λ place b e. (fits-block place.0 place.1 b e).1 };
       blocks = λ q block b e. (fits-block q block b e).0;
     }

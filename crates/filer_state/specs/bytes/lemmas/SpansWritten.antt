@@ -6,7 +6,7 @@ use Rattle.std.specs.Option.{option_map}
 use Rattle.std.proofs.lemmas.List.{length-take, length-drop, take_all}
 use Rattle.std.specs.List.{list_all}
 use Rattle.std.specs.FinMap.{get}
-use Rattle.nfs_model.specs.Types.{Moment}
+use Rattle.nfs_model.specs.Types.{Moment, Ownership}
 use Rattle.nfs_model.specs.Parts.{Hand}
 use Rattle.nfs_model.specs.Server.{block_size}
 use Rattle.nfs_model.specs.Home.{span_bytes}
@@ -86,12 +86,13 @@ module _ (p : VolumeContents) (f : ℕ) (inode : Inode) (size blocks : ℕ) (ver
         each (b ∷ bs) = each bs
 
     -- the card of the file
-    is-card : (o : Option Card) → option_map size_shown o ≡ Some (Some size) → (touch : Option Moment) × (o ≡ Some (OfFile size touch))
+    is-card : (o : Option Card) → option_map size_shown o ≡ Some (Some size)
+        → (touch : Option Moment) × (owner : Ownership) × (o ≡ Some (OfFile size touch owner))
     is-card None e = absurd cc
-    is-card (Some (OfFile n touch)) e = let same : n ≡ size = cc in (touch, ap (λ (k : ℕ). Some (OfFile k touch)) same)
+    is-card (Some (OfFile n touch owner)) e = let same : n ≡ size = cc in (touch, owner, ap (λ (k : ℕ). Some (OfFile k touch owner)) same)
     is-card (Some OfDirectory) e = absurd cc
 
-    card : (touch : Option Moment) × (get (stripe_at stripes i).cards f ≡ Some (OfFile size touch))
+    card : (touch : Option Moment) × (owner : Ownership) × (get (stripe_at stripes i).cards f ≡ Some (OfFile size touch owner))
     card = is-card (get (stripe_at stripes i).cards f) (card-shows q f 0 inode size blocks verifier there is_file sound.well_formed i on)
 
     small-end : offset + length written ≤ block_size * most_file_blocks
@@ -106,12 +107,12 @@ module _ (p : VolumeContents) (f : ℕ) (inode : Inode) (size blocks : ℕ) (ver
     one-span : Overwrites f offset written moment q hands (made + 1) after
     one-span = record {
       sound = sound-written q i f offset written moment size on sized within hands hands made (λ n. refl) sound;
-      bytes = byte-now q i f offset written moment on lies small-end filled size card.0 card.1;
-      filled = filled-kept q i f offset written moment on lies small-end filled size card.0 card.1 f;
+      bytes = byte-now q i f offset written moment on lies small-end filled size card.0 card.1 card.2;
+      filled = filled-kept q i f offset written moment on lies small-end filled size card.0 card.1 card.2 f;
       there = λ b. home-same stripes i now on (λ s. is_filled s f b) f b (filled-same f offset written moment (stripe_at stripes i) f b);
-      touch = touch-now q i f offset written moment on lies small-end filled size card.0 card.1;
+      touch = touch-now q i f offset written moment on lies small-end filled size card.0 card.1 card.2;
       seen = λ x.
-          ap (λ v. with_node v f x) (volume-written q i f offset written moment on lies small-end filled size card.0 card.1
+          ap (λ v. with_node v f x) (volume-written q i f offset written moment on lies small-end filled size card.0 card.1 card.2
           inode there size blocks verifier is_file within)
           ∙ put-twice (volume_of q) f _ x;
     }

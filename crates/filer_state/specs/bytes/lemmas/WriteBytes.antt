@@ -6,7 +6,7 @@ use Rattle.std.proofs.lemmas.Bool.Decides.{nat_tests}
 use Rattle.std.specs.List.{list_all}
 use Rattle.std.specs.FinMap.{get}
 use Rattle.std.specs.FinSet.{from_list}
-use Rattle.nfs_model.specs.Types.{Moment, Answer, Success, Failed, TooBig, NoSpace, WriteDone}
+use Rattle.nfs_model.specs.Types.{Moment, Answer, Success, Failed, TooBig, NoSpace, WriteDone, Ownership}
 use Rattle.nfs_model.specs.Tree.{Affinity, Stripe, Logical}
 use Rattle.nfs_model.specs.Parts.{Hand}
 use Rattle.nfs_model.specs.Server.{FileNode, File, VolumeState, block_size, used}
@@ -24,11 +24,11 @@ use Rattle.filer_state.specs.state.WellFormed.{StripeFits}
 use Rattle.filer_state.specs.state.Partition.{parts_of, times_in_hand}
 use Rattle.filer_state.specs.state.Sound.{IsSound}
 use Rattle.filer_state.specs.state.Lenses.{stripe_lens}
-use Rattle.filer_state.specs.state.Calls.{VolumeCall, WorksOn, LieIn, move_on, answer_of, volume_left}
+use Rattle.filer_state.specs.state.Calls.{VolumeCall, unasked, WorksOn, LieIn, move_on, answer_of, volume_left}
 use Rattle.filer_state.specs.laws.lemmas.Counted.{used-is}
 use Rattle.filer_state.specs.laws.lemmas.Steps.{sound-later}
 use Rattle.filer_state.specs.bytes.Writing.{StripeOutcome, tells, fails, some_written}
-use Rattle.filer_state.specs.bytes.WritingLaws.{write_call}
+use Rattle.filer_state.specs.bytes.WritingLaws.{plain, write_call}
 use Rattle.filer_state.specs.bytes.lemmas.Reads.{stripe-back}
 use Rattle.filer_state.specs.bytes.lemmas.Overwritten.{numbers-same}
 use Rattle.filer_state.specs.bytes.lemmas.OneStripe.{numbers-put}
@@ -79,7 +79,8 @@ module _ (p : VolumeContents) (i f : ℕ) (handle : List ℕ) (w : Writing) (han
   -- ---- a file
 
   module _ (inode : Inode) (there : get p.logical.inodes.inodes f ≡ Some inode) (size blocks : ℕ) (verifier : Option (List ℕ))
-      (is_file : inode.kind ≡ RegularFile size blocks verifier) (touch : Option Moment) (card : get s.cards f ≡ Some (OfFile size touch)) where
+      (is_file : inode.kind ≡ RegularFile size blocks verifier) (touch : Option Moment) (owner : Ownership)
+      (card : get s.cards f ≡ Some (OfFile size touch owner)) where
     abbrev file : FileNode
     file = file_before p f inode size verifier
 
@@ -95,13 +96,14 @@ module _ (p : VolumeContents) (i f : ℕ) (handle : List ℕ) (w : Writing) (han
     moved_if b = move_if (Some (parts_of p)) (Stripe p.number i) (if is_some (if b then Some TooBig else None) then None else Some (record {
       need = need file w.offset n;
       extends = nat_lt (length file.bytes) (w.offset + n);
+      clears = false;
       fits = is_none (space_fault seen file w.offset n);
     }))
 
     -- ---- at least one byte, as many as were given
 
-    module _ (run : call.run seen ≡ write_some seen f file w)
-        (moved : move_on call p ≡ move_if (Some (parts_of p)) (Stripe p.number i) (ready_bytes seen file w.offset n))
+    module _ (run : call.run seen ≡ write_some seen f file (plain w))
+        (moved : move_on call p ≡ move_if (Some (parts_of p)) (Stripe p.number i) (ready_bytes seen unasked file w.offset n))
         (here : LieIn (length p.stripes) i f w.offset n) where
       too-big : nat_lt s.largest (w.offset + n) ≡ true → Right (fails TooBig s)
       too-big past =
@@ -117,12 +119,18 @@ module _ (p : VolumeContents) (i f : ℕ) (handle : List ℕ) (w : Writing) (han
         small = end-small p.logical.largest (w.offset + n) sound.well_formed.largest within_largest
 
         extends-or-fills : (nat_lt (length file.bytes) (w.offset + n) || nat_lt 0 (need file w.offset n)) ≡ not (stays_within f w.offset n s)
-        extends-or-fills = moves-or-stays p i f w.offset n size inode verifier here small touch card
+        extends-or-fills = moves-or-stays p i f w.offset n size inode verifier here small touch owner card
+
+        -- no bit of the mode is cleared
+        clears-none : (a b : Bool) → (a || false || b) ≡ (a || b)
+        clears-none true b = refl
+        clears-none false b = refl
 
         moved-by : move_on call p ≡ (if not (stays_within f w.offset n s) then Some (Logical p.number) else None)
         moved-by =
             moved ∙ ap moved_if within_largest
-            ∙ ap (λ (b : Bool). if b then Some (Logical p.number) else None) extends-or-fills
+            ∙ ap (λ (b : Bool). if b then Some (Logical p.number) else None)
+            (clears-none (nat_lt (length file.bytes) (w.offset + n)) (nat_lt 0 (need file w.offset n)) ∙ extends-or-fills)
 
         moving : stays_within f w.offset n s ≡ false → Right (record { outcome = Moved (Logical p.number); stripe = s })
         moving leaves =
@@ -155,7 +163,7 @@ module _ (p : VolumeContents) (i f : ℕ) (handle : List ℕ) (w : Writing) (han
           changes =
               run ∙ ap told_if within_largest
               ∙ ap (λ (b : Bool). unless (if b then Some NoSpace else None) effect)
-              (space-there p i f w.offset n size inode verifier here small hands made sound fills-none)
+              (space-there p hands made (need file w.offset n) sound fills-none)
 
           sized : size_of (get p.logical.inodes.inodes f) ≡ Some size
           sized = ap size_of there ∙ ap size_in is_file
@@ -172,7 +180,7 @@ module _ (p : VolumeContents) (i f : ℕ) (handle : List ℕ) (w : Writing) (han
             (
               moved-by ∙ ap (λ (b : Bool). if not b then Some (Logical p.number) else None) stays,
               ap (λ verifier. Success (WriteDone n verifier)) fits.verifier ∙ ap (λ e. Success (answer_of 2 e)) (sym changes),
-              volume-written p i f w.offset (bytes_kept w) w.moment on here small filled size touch card inode there size blocks verifier is_file reached
+              volume-written p i f w.offset (bytes_kept w) w.moment on here small filled size touch owner card inode there size blocks verifier is_file reached
                   ∙ ap (volume_left seen) (sym changes),
               (
                 same-used,

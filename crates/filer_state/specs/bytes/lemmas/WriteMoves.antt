@@ -6,7 +6,7 @@ use Rattle.std.proofs.lemmas.List.FromFn.{length-map-range_with_len}
 use Rattle.std.specs.List.{list_all}
 use Rattle.std.specs.FinMap.{get}
 use Rattle.std.specs.FinSet.{contains}
-use Rattle.nfs_model.specs.Types.{Moment}
+use Rattle.nfs_model.specs.Types.{Moment, Ownership}
 use Rattle.nfs_model.specs.Server.{FileNode, block_size, used}
 use Rattle.nfs_model.specs.Parts.{Hand}
 use Rattle.nfs_model.specs.Serial.Write.{blocks_met, need}
@@ -65,23 +65,23 @@ module _ (p : VolumeContents) (i f offset n size : ℕ) (inode : Inode) (verifie
       (λ b some from below. filled-here p.stripes i f offset n lies small b some from below))
 
   -- it extends or fills exactly when it doesn't stay within
-  pub moves-or-stays : (touch : Option Moment) → get s.cards f ≡ Some (OfFile size touch)
+  pub moves-or-stays : (touch : Option Moment) (owner : Ownership) → get s.cards f ≡ Some (OfFile size touch owner)
       → (nat_lt (length file.bytes) (offset + n) || nat_lt 0 (need file offset n)) ≡ not (stays_within f offset n s)
-  moves-or-stays touch card =
+  moves-or-stays touch owner card =
       let long : length file.bytes ≡ size = length-map-range_with_len (file_byte p.stripes f) 0 size in
       ap (λ (k : ℕ). nat_lt k (offset + n) || nat_lt 0 (need file offset n)) long
       ∙ (λ j. past-not size (offset + n) j || needs j)
       ∙ both-not (nat_le (offset + n) size) (list_all (is_filled s f) (blocks_met offset n))
       ∙ ap (λ o. not (reaches (offset + n) o && list_all (is_filled s f) (blocks_met offset n))) (sym card)
 
-  -- where it fills nothing there is space
-  pub space-there : (hands : List Hand) (made : ℕ) → IsSound p hands made → nat_lt 0 (need file offset n) ≡ false
-      → nat_lt (p.logical.dead.range_blocks * ranges_used p.ranges) (used (volume_of p) + need file offset n) ≡ false
-  space-there hands made sound none =
-      let fits = used-fits p hands sound.well_formed sound.partition in
-      let same = used-is p sound.well_formed in
-      let all : used (volume_of p) ≤ p.logical.dead.range_blocks * ranges_used p.ranges = omega (arith, fits, same) in
-      full (used (volume_of p)) (need file offset n) (p.logical.dead.range_blocks * ranges_used p.ranges) all none
-    where
-      full : (some more most : ℕ) → some ≤ most → nat_lt 0 more ≡ false → nat_lt most (some + more) ≡ false
-      full some more most less nothing = grind (arith, nat_tests)
+-- where nothing is filled there is space
+pub space-there : (p : VolumeContents) (hands : List Hand) (made more : ℕ) → IsSound p hands made → nat_lt 0 more ≡ false
+    → nat_lt (volume_of p).total (used (volume_of p) + more) ≡ false
+space-there p hands made more sound none =
+    let fits = used-fits p hands sound.well_formed sound.partition in
+    let same = used-is p sound.well_formed in
+    let all : used (volume_of p) ≤ p.logical.dead.range_blocks * ranges_used p.ranges = omega (arith, fits, same) in
+    full (used (volume_of p)) (p.logical.dead.range_blocks * ranges_used p.ranges) all
+  where
+    full : (some most : ℕ) → some ≤ most → nat_lt most (some + more) ≡ false
+    full some most less = grind (arith, nat_tests, none)

@@ -6,7 +6,7 @@ use Rattle.std.proofs.lemmas.Bool.{eqb-true}
 use Rattle.std.proofs.lemmas.List.{length-take}
 use Rattle.std.specs.Option.{option_map}
 use Rattle.std.specs.FinMap.{get}
-use Rattle.nfs_model.specs.Types.{Moment, Answer, Failed, Stale, Invalid, WriteDone}
+use Rattle.nfs_model.specs.Types.{Moment, Answer, Failed, Stale, Invalid, WriteDone, Ownership}
 use Rattle.nfs_model.specs.Tree.{Affinity, Stripe}
 use Rattle.nfs_model.specs.Parts.{Hand}
 use Rattle.nfs_model.specs.Server.{FileNode, Node, File, VolumeState, most_bytes}
@@ -23,11 +23,11 @@ use Rattle.filer_state.specs.state.WellFormed.{StripeFits, size_shown}
 use Rattle.filer_state.specs.state.Partition.{parts_of, times_in_hand}
 use Rattle.filer_state.specs.state.Sound.{IsSound}
 use Rattle.filer_state.specs.state.Lenses.{stripe_lens}
-use Rattle.filer_state.specs.state.Calls.{VolumeCall, WorksOn, LieIn, located_on, move_on, answer_of, volume_left}
+use Rattle.filer_state.specs.state.Calls.{VolumeCall, unasked, WorksOn, LieIn, located_on, move_on, answer_of, volume_left}
 use Rattle.filer_state.specs.state.Running.{RunsOn}
 use Rattle.filer_state.specs.attributes.lemmas.Getting.{node-at}
 use Rattle.filer_state.specs.bytes.Writing.{StripeOutcome, tells, fails, some_written, file_written, card_written, stripe_write}
-use Rattle.filer_state.specs.bytes.WritingLaws.{write_call}
+use Rattle.filer_state.specs.bytes.WritingLaws.{plain, write_call}
 use Rattle.filer_state.specs.bytes.lemmas.Reads.{is-there}
 use Rattle.filer_state.specs.bytes.lemmas.WrittenNodes.{file_before}
 use Rattle.filer_state.specs.bytes.lemmas.WriteBytes.{IsDone, answers, some}
@@ -56,11 +56,11 @@ module _ (p : VolumeContents) (i f : ℕ) (handle : List ℕ) (w : Writing) (han
   -- ---- by the node
 
   abbrev moves : Option Node → Option Affinity
-  moves x = move_if (Some (parts_of p)) (Stripe p.number i) (ready (Some (located_on call p)) x w.offset w.count (length w.written))
+  moves x = move_if (Some (parts_of p)) (Stripe p.number i) (ready (Some (located_on call p)) x unasked w.offset w.count (length w.written))
 
   abbrev effect : Option Node → Effect
   effect x = on_file x (λ g. if not (w.count == length w.written) then Fails Invalid
-      else if w.count == 0 then Tells (WriteDone 0 seen.verifier) else write_some seen f g w)
+      else if w.count == 0 then Tells (WriteDone 0 seen.verifier) else write_some seen f g (plain w))
 
   -- where there is no file
   no-file : (x : Option Node) (e : Effect) (answer : Answer) → get seen.nodes f ≡ x → moves x ≡ None → effect x ≡ e → answer ≡ answer_of 2 e
@@ -71,7 +71,8 @@ module _ (p : VolumeContents) (i f : ℕ) (handle : List ℕ) (w : Writing) (han
   -- ---- a file
 
   module _ (inode : Inode) (there : get p.logical.inodes.inodes f ≡ Some inode) (size blocks : ℕ) (verifier : Option (List ℕ))
-      (is_file : inode.kind ≡ RegularFile size blocks verifier) (touch : Option Moment) (card : get s.cards f ≡ Some (OfFile size touch)) where
+      (is_file : inode.kind ≡ RegularFile size blocks verifier) (touch : Option Moment) (owner : Ownership)
+      (card : get s.cards f ≡ Some (OfFile size touch owner)) where
     abbrev file : FileNode
     file = file_before p f inode size verifier
 
@@ -101,19 +102,19 @@ module _ (p : VolumeContents) (i f : ℕ) (handle : List ℕ) (w : Writing) (han
             → Right (if not b then fails Invalid s else if t then tells (WriteDone 0 s.verifier) s else some_written p.number f w n s)
         by false e t h = answers p i f handle w hands hands' made sound weigh on (Failed Invalid 2) (Fails Invalid)
             (stays ∙ ap (λ (b : Bool). move_if (Some (parts_of p)) (Stripe p.number i) (if not b then None
-            else if w.count == 0 then None else ready_bytes seen file w.offset (min w.count most_bytes))) e)
+            else if w.count == 0 then None else ready_bytes seen unasked file w.offset (min w.count most_bytes))) e)
             (runs ∙ ap (λ (b : Bool). if not b then Fails Invalid
-            else if w.count == 0 then Tells (WriteDone 0 seen.verifier) else write_some seen f file w) e)
+            else if w.count == 0 then Tells (WriteDone 0 seen.verifier) else write_some seen f file (plain w)) e)
             refl refl
         by true e true h = answers p i f handle w hands hands' made sound weigh on (WriteDone 0 s.verifier) (Tells (WriteDone 0 seen.verifier))
             (stays ∙ (λ j. move_if (Some (parts_of p)) (Stripe p.number i) (if not (e j) then None
-            else if h j then None else ready_bytes seen file w.offset (min w.count most_bytes))))
-            (runs ∙ (λ j. if not (e j) then Fails Invalid else if h j then Tells (WriteDone 0 seen.verifier) else write_some seen f file w))
+            else if h j then None else ready_bytes seen unasked file w.offset (min w.count most_bytes))))
+            (runs ∙ (λ j. if not (e j) then Fails Invalid else if h j then Tells (WriteDone 0 seen.verifier) else write_some seen f file (plain w)))
             (ap (WriteDone 0) fits.verifier) refl
-        by true e false h = some p i f handle w hands hands' made sound weigh on inode there size blocks verifier is_file touch card
-            (runs ∙ (λ j. if not (e j) then Fails Invalid else if h j then Tells (WriteDone 0 seen.verifier) else write_some seen f file w))
+        by true e false h = some p i f handle w hands hands' made sound weigh on inode there size blocks verifier is_file touch owner card
+            (runs ∙ (λ j. if not (e j) then Fails Invalid else if h j then Tells (WriteDone 0 seen.verifier) else write_some seen f file (plain w)))
             (stays ∙ (λ j. move_if (Some (parts_of p)) (Stripe p.number i) (if not (e j) then None
-            else if h j then None else ready_bytes seen file w.offset (as-many e j))))
+            else if h j then None else ready_bytes seen unasked file w.offset (as-many e j))))
             (subst (LieIn (length p.stripes) i f w.offset) (as-many e) lies)
 
   -- ---- by its card, which shows what its inode does
@@ -126,10 +127,10 @@ module _ (p : VolumeContents) (i f : ℕ) (handle : List ℕ) (w : Writing) (han
 
       of-kind : (c : Card) → get s.cards f ≡ Some c → (inode : Inode) → get p.logical.inodes.inodes f ≡ Some inode
           → (kind : InodeKind) → inode.kind ≡ kind → size_shown c ≡ size_in kind → Right (card_written p.number f w (Some c) s)
-      of-kind (OfFile size touch) card inode there (RegularFile other blocks verifier) is same =
+      of-kind (OfFile size touch owner) card inode there (RegularFile other blocks verifier) is same =
           let sizes : other ≡ size = cc in
-          by-count inode there size blocks verifier (is ∙ ap (λ (k : ℕ). RegularFile k blocks verifier) sizes) touch card
-      of-kind (OfFile size touch) card inode there (DirectoryKind parent subs) is same = absurd cc
+          by-count inode there size blocks verifier (is ∙ ap (λ (k : ℕ). RegularFile k blocks verifier) sizes) touch owner card
+      of-kind (OfFile size touch owner) card inode there (DirectoryKind parent subs) is same = absurd cc
       of-kind OfDirectory card inode there (RegularFile other blocks verifier) is same = absurd cc
       of-kind OfDirectory card inode there (DirectoryKind parent subs) is same =
           no-file (option_map (node_of p.stripes p.logical.directories f) (Some (record inode { kind = DirectoryKind parent subs })))

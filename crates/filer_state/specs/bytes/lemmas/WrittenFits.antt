@@ -16,7 +16,7 @@ use Rattle.filer_state.specs.state.Partition.{times_in_hand}
 use Rattle.filer_state.specs.state.Sound.{IsSound}
 use Rattle.filer_state.specs.state.Lenses.{stripe_lens}
 use Rattle.filer_state.specs.laws.lemmas.Parts.{stripe-sound}
-use Rattle.filer_state.specs.bytes.lemmas.Overwritten.{block-other, block-here, block-long, block-zeros, filled-same, shown-same, times-same, len-same}
+use Rattle.filer_state.specs.bytes.lemmas.Overwritten.{block-other, block-here, block-long, block-zeros, filled-same, shown-same, owner-same, times-same, len-same}
 
 module _ (p : VolumeContents) (i f offset : ℕ) (written : List ℕ) (moment : Moment) (size : ℕ) (on : i < length p.stripes)
     (is_size : size_of (get p.logical.inodes.inodes f) ≡ Some size) (within : offset + length written ≤ size) where
@@ -72,6 +72,7 @@ module _ (p : VolumeContents) (i f offset : ℕ) (written : List ℕ) (moment : 
       stripes = fits.stripes;
       largest = fits.largest;
       cards = λ q. shown-same f offset written moment was q ∙ fits.cards q;
+      owners = λ q. owner-same f offset written moment was q ∙ fits.owners q;
       long = record { long = λ place b e. (fits-block place.0 place.1 b e).1 };
       blocks = λ q block b e. (fits-block q block b e).0;
     }

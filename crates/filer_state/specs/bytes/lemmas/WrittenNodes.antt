@@ -9,7 +9,7 @@ use Rattle.std.specs.Cmp.{nat_cmp_total}
 use Rattle.std.specs.FinMap.{get, insert, nat_cmp-IsAntisymmetric}
 use Rattle.std.specs.FinSet as sets
 use Rattle.std.specs.FinSet.{contains}
-use Rattle.nfs_model.specs.Types.{Moment}
+use Rattle.nfs_model.specs.Types.{Moment, Ownership}
 use Rattle.nfs_model.specs.Server.{Node, File, FileNode, block_size}
 use Rattle.nfs_model.specs.Shown.{touched}
 use Rattle.nfs_model.specs.Serial.Setattr.{with_node}
@@ -42,7 +42,8 @@ file_before p f inode size verifier = record {
 module _ (p : VolumeContents) (i f offset : ℕ) (written : List ℕ) (moment : Moment) (on : i < length p.stripes)
     (lies : LieIn (length p.stripes) i f offset (length written)) (small : offset + length written ≤ block_size * most_file_blocks)
     (filled : list_all (is_filled (stripe_at p.stripes i) f) (blocks_met offset (length written)) ≡ true)
-    (card_size : ℕ) (card_touch : Option Moment) (card : get (stripe_at p.stripes i).cards f ≡ Some (OfFile card_size card_touch)) where
+    (card_size : ℕ) (card_touch : Option Moment) (card_owner : Ownership)
+    (card : get (stripe_at p.stripes i).cards f ≡ Some (OfFile card_size card_touch card_owner)) where
   abbrev was : StripeValue
   was = stripe_at p.stripes i
 
@@ -90,7 +91,7 @@ module _ (p : VolumeContents) (i f offset : ℕ) (written : List ℕ) (moment : 
   -- ---- touches
 
   pub touch-now : file_touch after.stripes f ≡ Some (touched (file_touch p.stripes f) moment)
-  touch-now = touch-put f now moment p.stripes i on (touch-here f offset written moment was card_size card_touch card)
+  touch-now = touch-put f now moment p.stripes i on (touch-here f offset written moment was card_size card_touch card_owner card)
 
   touch-kept : (q : ℕ) → (q == f) ≡ false → file_touch after.stripes q ≡ file_touch p.stripes q
   touch-kept q ne = touch-same q now p.stripes i (touch-other f offset written moment was q ne)

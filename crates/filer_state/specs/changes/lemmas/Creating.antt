@@ -5,11 +5,11 @@ use Rattle.std.proofs.lemmas.Bool.Decides.{nat_tests}
 use Rattle.std.proofs.Common.{arith}
 use Rattle.std.specs.Cmp.{nat_cmp_total}
 use Rattle.std.specs.FinMap.{len, nat_cmp-IsAntisymmetric}
-use Rattle.nfs_model.specs.Types.{Moment, Credential, SetAttributes, CreateMode, Status, Invalid, TooBig, NoSpace}
+use Rattle.nfs_model.specs.Types.{Moment, Caller, SetAttributes, CreateMode, Status, Invalid, TooBig, NoSpace}
 use Rattle.nfs_model.specs.Locate.{Effect, Fails, unless, Naming}
 use Rattle.nfs_model.specs.Serial.Setattr.{has_bad_time, is_past, given}
 use Rattle.nfs_model.specs.Serial.Create as creating
-use Rattle.nfs_model.specs.Serial.Create.{is_full, create_fault, new_file, asked_attributes}
+use Rattle.nfs_model.specs.Serial.Create.{is_full, create_fault, new_file, asked_attributes, maker}
 use Rattle.nfs_model.specs.Serial.Mkdir.{mkdir_fault, new_directory}
 use Rattle.nfs_model.specs.Parts.{Hand}
 use Rattle.nfs_model.specs.volume.Directories.{found}
@@ -24,7 +24,7 @@ use Rattle.filer_state.specs.laws.lemmas.Mapped.{len-map_values}
 use Rattle.filer_state.specs.names.Answers.{entries_of}
 use Rattle.filer_state.specs.nodes.Laws.{WeighAlike}
 use Rattle.filer_state.specs.changes.Named.{HeldNaming, fails, unless_fault}
-use Rattle.filer_state.specs.changes.Making.{held_made, is_full_set, create_check, file_inode, mkdir_check, made_directory_inode}
+use Rattle.filer_state.specs.changes.Making.{maker_in, held_made, is_full_set, create_check, file_inode, mkdir_check, made_directory_inode}
 use Rattle.filer_state.specs.changes.lemmas.Named.{RightAs, naming_held, naming_seen, IsDirectoryHere}
 use Rattle.filer_state.specs.changes.lemmas.Making.{SaysNothing, failure-right, made-right}
 
@@ -85,40 +85,40 @@ module _ (p : VolumeContents) (hands hands' : List Hand) (made : ℕ) (sound : I
   checked done effect (Some status) right = failure status
 
   -- a new file
-  pub file-right : (mode : CreateMode) (credential : Credential)
-      → Right (unless_fault (create_check (asked_attributes mode) (logical_lens.of p)) (logical_lens.of p) (held_made h (file_inode mode credential moment)))
-      (unless (create_fault (volume_of p) (asked_attributes mode)) (creating.made n (new_file mode credential moment)))
-  file-right mode credential =
+  pub file-right : (mode : CreateMode) (caller : Caller)
+      → Right (unless_fault (create_check (asked_attributes mode) (logical_lens.of p)) (logical_lens.of p) (held_made h (file_inode mode (maker_in caller h) moment)))
+      (unless (create_fault (volume_of p) (asked_attributes mode)) (creating.made n (new_file mode (maker caller n) moment)))
+  file-right mode caller =
       subst (λ (o : Option Status). Right (unless_fault (create_check set (logical_lens.of p)) (logical_lens.of p) done) (unless o effect))
       (sym (create-fault p set))
       (checked done effect (create_check set (logical_lens.of p)) (λ passes.
       let pass = all-pass Invalid TooBig NoSpace (has_bad_time set) (is_past set.size p.logical.largest) (is_full_set (logical_lens.of p)) passes in
       made-right p hands hands' made sound weigh c says fileid name moment inode parent subs here absent (few-left p pass.1)
-      (file_inode mode credential moment) (refl, small-size p.logical.largest set.size pass.0)))
+      (file_inode mode (maker_in caller h) moment) (refl, small-size p.logical.largest set.size pass.0)))
     where
       set : SetAttributes
       set = asked_attributes mode
 
       done : LogicalAnswer
-      done = held_made h (file_inode mode credential moment)
+      done = held_made h (file_inode mode (maker_in caller h) moment)
 
       effect : Effect
-      effect = creating.made n (new_file mode credential moment)
+      effect = creating.made n (new_file mode (maker caller n) moment)
 
   -- a new directory
-  pub directory-right : (set : SetAttributes) (credential : Credential)
-      → Right (unless_fault (mkdir_check set (logical_lens.of p)) (logical_lens.of p) (held_made h (made_directory_inode fileid set credential moment)))
-      (unless (mkdir_fault (volume_of p) set) (creating.made n (new_directory fileid set credential moment)))
-  directory-right set credential =
+  pub directory-right : (set : SetAttributes) (caller : Caller)
+      → Right (unless_fault (mkdir_check set (logical_lens.of p)) (logical_lens.of p) (held_made h (made_directory_inode fileid set (maker_in caller h) moment)))
+      (unless (mkdir_fault (volume_of p) set) (creating.made n (new_directory fileid set (maker caller n) moment)))
+  directory-right set caller =
       subst (λ (o : Option Status). Right (unless_fault (mkdir_check set (logical_lens.of p)) (logical_lens.of p) done) (unless o effect))
       (sym (mkdir-fault p set))
       (checked done effect (mkdir_check set (logical_lens.of p)) (λ passes.
       let pass = all-pass Invalid Invalid NoSpace (has_bad_time set) (is_some set.size) (is_full_set (logical_lens.of p)) passes in
       made-right p hands hands' made sound weigh c says fileid name moment inode parent subs here absent (few-left p pass.1)
-      (made_directory_inode fileid set credential moment) (refl, refl)))
+      (made_directory_inode fileid set (maker_in caller h) moment) (refl, refl)))
     where
       done : LogicalAnswer
-      done = held_made h (made_directory_inode fileid set credential moment)
+      done = held_made h (made_directory_inode fileid set (maker_in caller h) moment)
 
       effect : Effect
-      effect = creating.made n (new_directory fileid set credential moment)
+      effect = creating.made n (new_directory fileid set (maker caller n) moment)

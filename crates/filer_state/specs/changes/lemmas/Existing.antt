@@ -1,17 +1,17 @@
 -- CREATE by what is under Logical, beside the serial server, where the name is there.
 use Rattle.std.proofs.Common.{◌≡◌, ℕ, ◌+◌, ◌==◌, Bool, true, false, List, [], ◌∷◌, Option, Some, None, refl, sym, ap, ◌∙◌, subst, arith}
-use Rattle.std.specs.Prelude.{if◌then◌else◌}
+use Rattle.std.specs.Prelude.{◌&&◌, is_none, if◌then◌else◌}
 use Rattle.std.proofs.lemmas.Bool.{eqb-true}
 use Rattle.std.specs.Option.{option_map}
 use Rattle.std.specs.Ordering.{nat_cmp}
 use Rattle.std.specs.FinMap.{FinMap, get, insert}
-use Rattle.nfs_model.specs.Types.{Moment, Credential, Listed, SetAttributes, CreateMode, Unchecked, Guarded, Exclusive, Status, MadeDone, Exists}
+use Rattle.nfs_model.specs.Types.{Moment, Caller, Listed, SetAttributes, CreateMode, Unchecked, Guarded, Exclusive, Status, MadeDone, Exists}
 use Rattle.nfs_model.specs.Tree.{Affinity}
 use Rattle.nfs_model.specs.Server.{Node, File, Directory, handle_bytes}
 use Rattle.nfs_model.specs.Shown.{shown, before_of, subdirectories, is_directory_node}
 use Rattle.nfs_model.specs.Locate.{Effect, Fails, Tells, unless, Naming}
 use Rattle.nfs_model.specs.Serial.Setattr.{set_node, setattr_fault, with_node}
-use Rattle.nfs_model.specs.Serial.Create.{is_verifier, there_told, set_there, create_over}
+use Rattle.nfs_model.specs.Serial.Create.{is_verifier, there_told, told_as_it_is, set_there, over_taken, create_over}
 use Rattle.nfs_model.specs.Parts.{Hand, one_if}
 use Rattle.nfs_model.specs.volume.Inodes.{InodeKind, RegularFile, DirectoryKind, Inode}
 use Rattle.nfs_model.specs.volume.lemmas.Numbered.{get-insert_at}
@@ -25,7 +25,7 @@ use Rattle.filer_state.specs.attributes.lemmas.Getting.{node-at, node-shown}
 use Rattle.filer_state.specs.laws.lemmas.Steps.{sound-later}
 use Rattle.filer_state.specs.nodes.Laws.{WeighAlike}
 use Rattle.filer_state.specs.changes.Named.{HeldNaming, HeldNode, fails, unless_fault}
-use Rattle.filer_state.specs.changes.Attributes.{NodeSet, node_changed, node_fault}
+use Rattle.filer_state.specs.changes.Attributes.{NodeSet, node_changed, node_fault, taken_by, taken_of}
 use Rattle.filer_state.specs.changes.Making.{there_shown, there_set, create_existing}
 use Rattle.filer_state.specs.changes.Laws.{create_call}
 use Rattle.filer_state.specs.changes.lemmas.Named.{RightAs, naming_held, naming_seen, IsDirectoryHere, IsChildHere, before-shown}
@@ -58,9 +58,9 @@ module _ (nodes : FinMap nat_cmp Node) (f : ℕ) (old new : Node) (there : get n
 
 -- ---- by the mode
 
-module _ (handle : List ℕ) (node : Affinity) (mode : CreateMode) (credential : Credential)
+module _ (handle : List ℕ) (node : Affinity) (mode : CreateMode) (caller : Caller)
     (p : VolumeContents) (hands hands' : List Hand) (made : ℕ) (sound : IsSound p hands made) (weigh : WeighAlike p.number hands hands')
-    (fileid : ℕ) (name : List ℕ) (moment : Moment) (says : SaysNothing (create_call handle node fileid name mode credential moment))
+    (fileid : ℕ) (name : List ℕ) (moment : Moment) (says : SaysNothing (create_call handle node fileid name mode caller moment))
     (inode : Inode) (parent subs : ℕ) (here : IsDirectoryHere p fileid name moment inode parent subs)
     (child : HeldNode) (child_here : IsChildHere p fileid name child) where
   abbrev h : HeldNaming
@@ -73,10 +73,10 @@ module _ (handle : List ℕ) (node : Affinity) (mode : CreateMode) (credential :
   was = node_of p.stripes p.logical.directories child.fileid child.inode
 
   abbrev Right : LogicalAnswer → Effect → Type 0
-  Right done effect = RightAs (create_call handle node fileid name mode credential moment) p hands' (made + 1) done effect
+  Right done effect = RightAs (create_call handle node fileid name mode caller moment) p hands' (made + 1) done effect
 
   failure : (status : Status) → Right (fails status (logical_lens.of p)) (Fails status)
-  failure status = failure-right p hands hands' made sound weigh (create_call handle node fileid name mode credential moment) says status
+  failure status = failure-right p hands hands' made sound weigh (create_call handle node fileid name mode caller moment) says status
 
   own-shown : shown (volume_of p) fileid (Directory n.directory) ≡ shown_inode p.number fileid inode None
   own-shown = before-shown p fileid name moment sound.well_formed inode parent subs here
@@ -142,8 +142,20 @@ module _ (handle : List ℕ) (node : Affinity) (mode : CreateMode) (credential :
   by-verifier true = there-right
   by-verifier false = failure Exists
 
-  by-kind : (asked : CreateMode) (kind : InodeKind) → child.inode.kind ≡ kind → Right (create_existing h asked child kind)
-      (create_over n asked child.fileid (node_by p.stripes (get p.logical.directories child.fileid) child.fileid child.inode.attributes kind))
+  -- the node, were it of this kind
+  abbrev child_of : InodeKind → Node
+  child_of kind = node_by p.stripes (get p.logical.directories child.fileid) child.fileid child.inode.attributes kind
+
+  by-size : (set : SetAttributes) (b : Bool)
+      → Right (if b then there_shown h child else held (taken_of caller (over_taken caller set) child.inode))
+      (if b then told_as_it_is n child.fileid was
+      else unless (setattr_fault (volume_of p) (taken_of caller (over_taken caller set) child.inode) None was)
+      (set_there n child.fileid (set_node (taken_of caller (over_taken caller set) child.inode) moment was)))
+  by-size set true = there-right
+  by-size set false = upon-right (taken_of caller (over_taken caller set) child.inode)
+
+  by-kind : (asked : CreateMode) (kind : InodeKind) → child.inode.kind ≡ kind → Right (create_existing h asked caller child kind)
+      (create_over n asked caller child.fileid (node_by p.stripes (get p.logical.directories child.fileid) child.fileid child.inode.attributes kind))
   by-kind (Guarded set) (RegularFile size filled verifier) is = failure Exists
   by-kind (Guarded set) (DirectoryKind up subdirectories) is = failure Exists
   by-kind (Unchecked set) (DirectoryKind up subdirectories) is = failure Exists
@@ -155,11 +167,13 @@ module _ (handle : List ℕ) (node : Affinity) (mode : CreateMode) (credential :
       (if is_verifier kept verifier then Tells (there_told n (volume_of p) (record { fileid = child.fileid; node = x })) else Fails Exists)) seen
       (by-verifier (is_verifier kept verifier))
   by-kind (Unchecked set) (RegularFile size filled kept) is =
-      let seen : was ≡ node_by p.stripes (get p.logical.directories child.fileid) child.fileid child.inode.attributes (RegularFile size filled kept) =
-      ap (node_by p.stripes (get p.logical.directories child.fileid) child.fileid child.inode.attributes) is in
-      subst (λ (x : Node). Right (held set) (unless (setattr_fault (volume_of p) set None x) (set_there n child.fileid (set_node set moment x)))) seen
-      (upon-right set)
+      subst (λ (k : InodeKind). Right
+      (if caller.checked && is_none set.size then there_shown h child else held (taken_of caller (over_taken caller set) child.inode))
+      (if caller.checked && is_none set.size then told_as_it_is n child.fileid (child_of k)
+      else unless (setattr_fault (volume_of p) (taken_by caller (over_taken caller set) child.inode.attributes k) None (child_of k))
+      (set_there n child.fileid (set_node (taken_by caller (over_taken caller set) child.inode.attributes k) moment (child_of k))))) is
+      (by-size set (caller.checked && is_none set.size))
 
   -- the name is there
-  pub there-as : Right (create_existing h mode child child.inode.kind) (create_over n mode child.fileid was)
+  pub there-as : Right (create_existing h mode caller child child.inode.kind) (create_over n mode caller child.fileid was)
   there-as = by-kind mode child.inode.kind refl

@@ -3,7 +3,7 @@ use Rattle.std.proofs.Common.{◌≡◌, ℕ, ◌+◌, ◌-◌, not, Bool, true,
 use Rattle.std.specs.Prelude.{IsTrue, is_some, if◌then◌else◌}
 use Rattle.std.specs.Option.{option_map}
 use Rattle.std.specs.FinMap.{get}
-use Rattle.nfs_model.specs.Types.{Moment, Credential, Listed, SetAttributes, CreateMode, Status, Shown, Wcc, Answer, Create, Mkdir, MadeDone, Exists}
+use Rattle.nfs_model.specs.Types.{Moment, Caller, Listed, SetAttributes, CreateMode, Status, Shown, Wcc, Answer, Create, Mkdir, MadeDone, Exists}
 use Rattle.nfs_model.specs.Tree.{Affinity}
 use Rattle.nfs_model.specs.Server.{Node, Server, used}
 use Rattle.nfs_model.specs.Names.{is_dots, find_name}
@@ -36,9 +36,9 @@ use Rattle.filer_state.specs.changes.lemmas.Existing.{there-as}
 
 -- ---- CREATE
 
-module _ (handle : List ℕ) (node : Affinity) (fileid : ℕ) (name : List ℕ) (mode : CreateMode) (credential : Credential) (moment : Moment) where
+module _ (handle : List ℕ) (node : Affinity) (fileid : ℕ) (name : List ℕ) (mode : CreateMode) (caller : Caller) (moment : Moment) where
   abbrev creates : VolumeCall
-  creates = create_call handle node fileid name mode credential moment
+  creates = create_call handle node fileid name mode caller moment
 
   create-says : SaysNothing creates
   create-says old new same parts =
@@ -59,30 +59,30 @@ module _ (handle : List ℕ) (node : Affinity) (fileid : ℕ) (name : List ℕ) 
       abbrev n : Naming
       n = naming_seen p fileid name moment inode parent
 
-      create-under : RightHere (create_by h mode credential (node_under h)) (create_at n mode credential (named_child n))
+      create-under : RightHere (create_by h mode caller (node_under h)) (create_at n mode caller (named_child n))
       create-under = child-right p sound.well_formed fileid name moment inode parent subs here
-          (λ (o : Option HeldNode) (x : Option Found). RightHere (create_by h mode credential o) (create_at n mode credential x))
-          (λ absent. file-right p hands hands' made sound weigh creates create-says fileid name moment inode parent subs here absent mode credential)
-          (λ c there. there-as handle node mode credential p hands hands' made sound weigh fileid name moment create-says inode parent subs here c there)
+          (λ (o : Option HeldNode) (x : Option Found). RightHere (create_by h mode caller o) (create_at n mode caller x))
+          (λ absent. file-right p hands hands' made sound weigh creates create-says fileid name moment inode parent subs here absent mode caller)
+          (λ c there. there-as handle node mode caller p hands hands' made sound weigh fileid name moment create-says inode parent subs here c there)
 
-      create-here : (b : Bool) → RightHere (if b then fails Exists (logical_lens.of p) else create_by h mode credential (node_under h))
-          (if b then Fails Exists else create_at n mode credential (named_child n))
+      create-here : (b : Bool) → RightHere (if b then fails Exists (logical_lens.of p) else create_by h mode caller (node_under h))
+          (if b then Fails Exists else create_at n mode caller (named_child n))
       create-here true = create-fails Exists
       create-here false = create-under
 
-    create-right : RightHere (create_done p.number fileid name mode credential moment (logical_lens.of p)) (creates.run (volume_of p))
-    create-right = named-right p fileid name moment sound.well_formed RightHere (held_create mode credential) (create mode credential) create-fails
+    create-right : RightHere (create_done p.number fileid name mode caller moment (logical_lens.of p)) (creates.run (volume_of p))
+    create-right = named-right p fileid name moment sound.well_formed RightHere (held_create mode caller) (create mode caller) create-fails
         (λ inode parent subs here. create-here inode parent subs here (is_dots name))
 
-  pub create-is-done : (v : ℕ) (s : LogicalSet) → IsDone v creates s (create_done v fileid name mode credential moment s)
-  create-is-done v s = done-right v creates (λ w t. create_done w fileid name mode credential moment t) (λ p. refl) refl
+  pub create-is-done : (v : ℕ) (s : LogicalSet) → IsDone v creates s (create_done v fileid name mode caller moment s)
+  create-is-done v s = done-right v creates (λ w t. create_done w fileid name mode caller moment t) (λ p. refl) refl
       (λ p hands hands' made sound weigh. create-right p hands hands' made sound weigh) s
 
 -- ---- MKDIR
 
-module _ (handle : List ℕ) (node : Affinity) (fileid : ℕ) (name : List ℕ) (set : SetAttributes) (credential : Credential) (moment : Moment) where
+module _ (handle : List ℕ) (node : Affinity) (fileid : ℕ) (name : List ℕ) (set : SetAttributes) (caller : Caller) (moment : Moment) where
   abbrev makes : VolumeCall
-  makes = mkdir_call handle node fileid name set credential moment
+  makes = mkdir_call handle node fileid name set caller moment
 
   mkdir-says : SaysNothing makes
   mkdir-says old new same parts = parts
@@ -101,23 +101,23 @@ module _ (handle : List ℕ) (node : Affinity) (fileid : ℕ) (name : List ℕ) 
       abbrev seen : Naming
       seen = naming_seen p fileid name moment inode parent
 
-      mkdir-under : RightMade (mkdir_by held set credential (node_under held)) (mkdir_at seen set credential (named_child seen))
+      mkdir-under : RightMade (mkdir_by held set caller (node_under held)) (mkdir_at seen set caller (named_child seen))
       mkdir-under = child-right p sound.well_formed fileid name moment inode parent subs here
-          (λ (o : Option HeldNode) (x : Option Found). RightMade (mkdir_by held set credential o) (mkdir_at seen set credential x))
-          (λ absent. directory-right p hands hands' made sound weigh makes mkdir-says fileid name moment inode parent subs here absent set credential)
+          (λ (o : Option HeldNode) (x : Option Found). RightMade (mkdir_by held set caller o) (mkdir_at seen set caller x))
+          (λ absent. directory-right p hands hands' made sound weigh makes mkdir-says fileid name moment inode parent subs here absent set caller)
           (λ c there. mkdir-fails Exists)
 
-      mkdir-here : (b : Bool) → RightMade (if b then fails Exists (logical_lens.of p) else mkdir_by held set credential (node_under held))
-          (if b then Fails Exists else mkdir_at seen set credential (named_child seen))
+      mkdir-here : (b : Bool) → RightMade (if b then fails Exists (logical_lens.of p) else mkdir_by held set caller (node_under held))
+          (if b then Fails Exists else mkdir_at seen set caller (named_child seen))
       mkdir-here true = mkdir-fails Exists
       mkdir-here false = mkdir-under
 
-    mkdir-right : RightMade (mkdir_done p.number fileid name set credential moment (logical_lens.of p)) (makes.run (volume_of p))
-    mkdir-right = named-right p fileid name moment sound.well_formed RightMade (held_mkdir set credential) (mkdir set credential) mkdir-fails
+    mkdir-right : RightMade (mkdir_done p.number fileid name set caller moment (logical_lens.of p)) (makes.run (volume_of p))
+    mkdir-right = named-right p fileid name moment sound.well_formed RightMade (held_mkdir set caller) (mkdir set caller) mkdir-fails
         (λ inode parent subs here. mkdir-here inode parent subs here (is_dots name))
 
-  pub mkdir-is-done : (v : ℕ) (s : LogicalSet) → IsDone v makes s (mkdir_done v fileid name set credential moment s)
-  mkdir-is-done v s = done-right v makes (λ w t. mkdir_done w fileid name set credential moment t) (λ p. refl) refl
+  pub mkdir-is-done : (v : ℕ) (s : LogicalSet) → IsDone v makes s (mkdir_done v fileid name set caller moment s)
+  mkdir-is-done v s = done-right v makes (λ w t. mkdir_done w fileid name set caller moment t) (λ p. refl) refl
       (λ p hands hands' made sound weigh. mkdir-right p hands hands' made sound weigh) s
 
 -- ---- memory may run out
@@ -157,23 +157,23 @@ no-name p fileid name absent = ap (λ (o : Option Node). has_name o name) (node-
     by None = refl
     by (Some inode) = kinds inode inode.kind
 
-pub create-starves : (v fileid : ℕ) (handle name : List ℕ) (node : Affinity) (mode : CreateMode) (credential : Credential) (moment : Moment)
+pub create-starves : (v fileid : ℕ) (handle name : List ℕ) (node : Affinity) (mode : CreateMode) (caller : Caller) (moment : Moment)
     (s : LogicalSet) (made : List ℕ) (object : Shown) (directory : Wcc)
-    → (create_done v fileid name mode credential moment s).answer ≡ MadeDone made object directory → fileid_found (entries_of s.own fileid) name ≡ None
-    → MayStarve v (create_call handle node fileid name mode credential moment) s
-create-starves v fileid handle name node mode credential moment s made object directory is absent =
-    may-starve 2 v (create_call handle node fileid name mode credential moment) (λ w t. create_done w fileid name mode credential moment t) (λ p. refl) refl
-    (λ p hands count sound. (create-right handle node fileid name mode credential moment p hands hands count sound (λ n. refl)).0) s
+    → (create_done v fileid name mode caller moment s).answer ≡ MadeDone made object directory → fileid_found (entries_of s.own fileid) name ≡ None
+    → MayStarve v (create_call handle node fileid name mode caller moment) s
+create-starves v fileid handle name node mode caller moment s made object directory is absent =
+    may-starve 2 v (create_call handle node fileid name mode caller moment) (λ w t. create_done w fileid name mode caller moment t) (λ p. refl) refl
+    (λ p hands count sound. (create-right handle node fileid name mode caller moment p hands hands count sound (λ n. refl)).0) s
     (λ p server has at.
     let none : has_name (node_named (locate server handle)) name ≡ false = ap (λ o. has_name (node_named o) name) at
     ∙ no-name p fileid name (ap (λ (t : LogicalSet). fileid_found (entries_of t.own fileid) name) has ∙ absent) in
     subst (λ (a : Answer). IsTrue (takes_memory server (Create handle name mode) a)) (sym is) (ap (λ b. not b) none))
 
-pub mkdir-starves : (v fileid : ℕ) (handle name : List ℕ) (node : Affinity) (set : SetAttributes) (credential : Credential) (moment : Moment)
+pub mkdir-starves : (v fileid : ℕ) (handle name : List ℕ) (node : Affinity) (set : SetAttributes) (caller : Caller) (moment : Moment)
     (s : LogicalSet) (made : List ℕ) (object : Shown) (directory : Wcc)
-    → (mkdir_done v fileid name set credential moment s).answer ≡ MadeDone made object directory
-    → MayStarve v (mkdir_call handle node fileid name set credential moment) s
-mkdir-starves v fileid handle name node set credential moment s made object directory is =
-    may-starve 2 v (mkdir_call handle node fileid name set credential moment) (λ w t. mkdir_done w fileid name set credential moment t) (λ p. refl) refl
-    (λ p hands count sound. (mkdir-right handle node fileid name set credential moment p hands hands count sound (λ n. refl)).0) s
+    → (mkdir_done v fileid name set caller moment s).answer ≡ MadeDone made object directory
+    → MayStarve v (mkdir_call handle node fileid name set caller moment) s
+mkdir-starves v fileid handle name node set caller moment s made object directory is =
+    may-starve 2 v (mkdir_call handle node fileid name set caller moment) (λ w t. mkdir_done w fileid name set caller moment t) (λ p. refl) refl
+    (λ p hands count sound. (mkdir-right handle node fileid name set caller moment p hands hands count sound (λ n. refl)).0) s
     (λ p server has at. subst (λ (a : Answer). IsTrue (takes_memory server (Mkdir handle name set) a)) (sym is) refl)

@@ -6,7 +6,8 @@ use Rattle.std.specs.Ordering.{nat_cmp}
 use Rattle.std.specs.FinMap.{len}
 use Rattle.std.specs.FinSet as sets
 use Rattle.std.specs.FinSet.{from_list}
-use Rattle.nfs_model.specs.Types.{Moment, Status, MadeDone}
+use Rattle.nfs_model.specs.Types.{Moment, Status, MadeDone, Ownership}
+use Rattle.nfs_model.specs.Serial.Rights.{ownership_of}
 use Rattle.nfs_model.specs.Server.{Directory, VolumeState, block_size, handle_bytes, used}
 use Rattle.nfs_model.specs.Shown.{shown, before_of}
 use Rattle.nfs_model.specs.Locate.{Fails, Naming}
@@ -62,9 +63,10 @@ child-shown volume f directory largest child is_new = by child.kind is_new
     by (DirectoryKind up n) h = λ j. record (shown_kind volume.number f child.attributes (DirectoryKind up n) None) { links = 2 + sym h.1 j }
 
 -- a card moves no block
-numbers-stay : (k : InodeKind) (f : ℕ) (stripes : List StripeValue) → all_numbers (map (card_made k f) stripes) ≡ all_numbers stripes
-numbers-stay k f [] = refl
-numbers-stay k f (s ∷ stripes) = λ j. numbers_in (record s { blocks = blocks-same k f s j }) ++ numbers-stay k f stripes j
+numbers-stay : (owner : Ownership) (k : InodeKind) (f : ℕ) (stripes : List StripeValue)
+    → all_numbers (map (card_made owner k f) stripes) ≡ all_numbers stripes
+numbers-stay owner k f [] = refl
+numbers-stay owner k f (s ∷ stripes) = λ j. numbers_in (record s { blocks = blocks-same owner k f s j }) ++ numbers-stay owner k f stripes j
 
 module _ (p : VolumeContents) (hands hands' : List Hand) (made : ℕ) (sound : IsSound p hands made) (weigh : WeighAlike p.number hands hands')
     (c : VolumeCall) (says : SaysNothing c) where
@@ -108,12 +110,13 @@ module _ (p : VolumeContents) (hands hands' : List Hand) (made : ℕ) (sound : I
             here.there here.entered sound.well_formed.logical.named absent p.logical.largest is_new)
 
     parts-stay : parts_of after ≡ parts_of p
-    parts-stay = λ j. record (parts_of p) { files = from_list (numbers-stay child.kind f p.stripes j) }
+    parts-stay = λ j. record (parts_of p) { files = from_list (numbers-stay (ownership_of child.attributes) child.kind f p.stripes j) }
 
     used-stays : used (volume_of after) ≡ used (volume_of p)
     used-stays =
         used-is after sound-after.well_formed ∙ sound-after.well_formed.used
-        ∙ total-mapped (card_made child.kind f) (λ (s : StripeValue). len s.blocks) (λ s. ap (λ x. len x) (blocks-same child.kind f s)) p.stripes
+        ∙ total-mapped (card_made (ownership_of child.attributes) child.kind f) (λ (s : StripeValue). len s.blocks)
+        (λ s. ap (λ x. len x) (blocks-same (ownership_of child.attributes) child.kind f s)) p.stripes
         ∙ sym (used-is p sound.well_formed ∙ sound.well_formed.used)
 
     -- the new node is under the name

@@ -10,6 +10,7 @@ use Rattle.std.specs.FinSet.{from_list}
 use Rattle.nfs_model.specs.Types.{Moment, SetAttributes, NotSynchronous, Invalid, TooBig}
 use Rattle.nfs_model.specs.Server.{Attributes, Node, File, Directory, VolumeState, used}
 use Rattle.nfs_model.specs.Shown.{shown, times, settled}
+use Rattle.nfs_model.specs.Serial.Rights.{ownership_of}
 use Rattle.nfs_model.specs.Serial.Setattr.{is_stale_guard, has_bad_time, is_past, resized, set_attributes, set_node, setattr_fault, with_node}
 use Rattle.nfs_model.specs.Moves.{Emptied}
 use Rattle.nfs_model.specs.Parts.{Hand}
@@ -23,10 +24,10 @@ use Rattle.filer_state.specs.state.WellFormed.{WellFormed}
 use Rattle.filer_state.specs.state.Partition.{parts_of, numbers_in, all_numbers}
 use Rattle.filer_state.specs.state.Sound.{IsSound}
 use Rattle.filer_state.specs.state.Lenses.{logical_lens}
-use Rattle.filer_state.specs.state.Changes.{touches_taken, attributes_now, shown_inode, inode_after}
+use Rattle.filer_state.specs.state.Changes.{stripes_settled, attributes_now, shown_inode, inode_after}
 use Rattle.filer_state.specs.laws.lemmas.Counted.{used-is}
 use Rattle.filer_state.specs.attributes.lemmas.Getting.{node-at, node-shown}
-use Rattle.filer_state.specs.attributes.lemmas.Kept.{touch-gone}
+use Rattle.filer_state.specs.attributes.lemmas.Settled.{touch-gone}
 use Rattle.filer_state.specs.attributes.lemmas.Setting.{set_in, sound-set, with_attributes, nodes-set}
 use Rattle.filer_state.specs.attributes.lemmas.Setattr.{emptied-none}
 use Rattle.filer_state.specs.nodes.Laws.{WeighAlike, file_resized, file_seen}
@@ -142,7 +143,7 @@ module _ (p : VolumeContents) (f : ℕ) (set : SetAttributes) (moment : Moment) 
         by (File g) = ap (λ o. File (record (resized o (settled g)) { attributes = set_attributes set moment (settled g).attributes })) (sym unsized)
         by (Directory d) = refl
 
-    numbers-stay : (stripes : List StripeValue) → all_numbers (touches_taken f stripes) ≡ all_numbers stripes
+    numbers-stay : (stripes : List StripeValue) → all_numbers (stripes_settled f (ownership_of next.attributes) stripes) ≡ all_numbers stripes
     numbers-stay [] = refl
     numbers-stay (s ∷ stripes) = ap (λ ns. numbers_in s ++ ns) (numbers-stay stripes)
 
@@ -152,7 +153,7 @@ module _ (p : VolumeContents) (f : ℕ) (set : SetAttributes) (moment : Moment) 
     volume-after : volume_of after ≡ with_node (volume_of p) f node
     volume-after = λ j. record (volume_of p) {
       next = next-set p.logical.inodes f next j;
-      nodes = (nodes-set p.stripes p.logical.directories f p.logical.inodes old next there refl
+      nodes = (nodes-set p.stripes p.logical.directories f (ownership_of next.attributes) p.logical.inodes old next there refl
           ∙ ap (λ x. insert (volume_of p).nodes f x) node-is) j;
     }
 
@@ -165,7 +166,7 @@ module _ (p : VolumeContents) (f : ℕ) (set : SetAttributes) (moment : Moment) 
       directories = refl;
       is_shown = node-shows after (with_node (volume_of p) f node) f node next sound-after.well_formed volume-after
           (set-there (volume_of p) f node) (inode-set-there p.logical.inodes f old next there)
-          ∙ ap (shown_inode p.number f next) (touch-gone f p.stripes);
+          ∙ ap (shown_inode p.number f next) (touch-gone f (ownership_of next.attributes) p.stripes);
       emptied =
           let old_used = used-is p sound.well_formed in
           let new_used = used-is after sound-after.well_formed in
@@ -198,10 +199,10 @@ module _ (p : VolumeContents) (f : ℕ) (set : SetAttributes) (moment : Moment) 
         was : node_of p.stripes p.logical.directories f old ≡ File (file_seen p m may.old_size may.verifier)
         was = was-file p m sound.well_formed there may.old_size may.filled may.verifier may.is_file may.small
 
-    touch-cut : (stripes : List StripeValue) → file_touch (map (stripe_sized f size) stripes) f ≡ None
+    touch-cut : (stripes : List StripeValue) → file_touch (map (stripe_sized f size (ownership_of m.attributes)) stripes) f ≡ None
     touch-cut [] = refl
     touch-cut (s ∷ stripes) = λ j. later
-        ((ap touch_of (card-sized f size s f) ∙ ap (λ (b : Bool). touch_of (if b then Some (OfFile size None) else get s.cards f)) (itself f)) j)
+        ((ap touch_of (card-sized f size (ownership_of m.attributes) s f) ∙ ap (λ (b : Bool). touch_of (if b then Some (OfFile size None (ownership_of m.attributes)) else get s.cards f)) (itself f)) j)
         (touch-cut stripes j)
 
     sound-cut : IsSound cut hands' (made + 1)

@@ -18,9 +18,9 @@ use Rattle.nfs_model.specs.volume.Ranges.{RangeValue, IsRangeSize, range_numbers
 use Rattle.filer_state.specs.state.Contents.{filer_contents, each}
 use Rattle.filer_state.specs.state.Tree.{ranges_used}
 use Rattle.affinity.specs.Fault.{fault_of, is_sized}
-use Rattle.affinity.specs.Largest.{mebibyte, largest_of, mebibytes_in, inodes_in, inodes_of, steps_in, steps_of, begun_in, begun_of, remembered_in, remembered_of}
+use Rattle.affinity.specs.Largest.{mebibyte, largest_of, mebibytes_in, inodes_in, inodes_of, steps_in, steps_of, begun_in, begun_of, root_in, root_of, remembered_in, remembered_of}
 use Rattle.affinity.specs.lemmas.Lawful.{keeps_rules, stripes_either, mebibytes_between, inodes_between, range_blocks_size}
-use Rattle.nfs_model.specs.Types.{Listed, Moment}
+use Rattle.nfs_model.specs.Types.{Listed, Moment, Ownership}
 use Rattle.nfs_model.specs.Tree as trees
 use Rattle.nfs_model.specs.Tree.{Layout, VolumeLayout, stripes_of, aggregate_of, aggregate_in, range_blocks_of, range_blocks_in}
 use Rattle.nfs_model.specs.Server.{VolumeState, root_node, opening_volume, opening_volumes, opening}
@@ -35,7 +35,7 @@ use Rattle.filer_state.specs.state.Contents.{VolumeContents, at, contents_of, lo
 use Rattle.filer_state.specs.state.Tree.{stripe_at, file_filled, home_stripe, most_file_blocks, node_of, node_by, volume_of, tree}
 use Rattle.filer_state.specs.state.Names.{root, size_of, size_in, parent_directory, is_directory, subdirectories_of, DirectoryFits, AreNamed, IsLogical}
 use Rattle.filer_state.specs.state.Names.{InodeMap, DirectoryMap}
-use Rattle.filer_state.specs.state.WellFormed.{size_shown, StripeFits, RangeFits, WellFormed}
+use Rattle.filer_state.specs.state.WellFormed.{size_shown, owner_shown, owner_in, StripeFits, RangeFits, WellFormed}
 use Rattle.filer_state.specs.state.Partition.{StandOnce, times_in_stripe}
 use Rattle.filer_state.specs.state.Sound.{IsSound, AllSound}
 use Rattle.filer_state.specs.state.Opening.{opening_logical, opening_stripe, opening_range, ranges_in, AreOpening}
@@ -63,64 +63,64 @@ single-entries x = entries-from_sorted nat_cmp ((root, x) ∷ []) tt
 
 -- ---- names
 
-abbrev root_inodes : Moment → InodeMap
-root_inodes begun = from_sorted ((root, root_inode begun) ∷ [])
+abbrev root_inodes : Ownership → Moment → InodeMap
+root_inodes owner begun = from_sorted ((root, root_inode owner begun) ∷ [])
 
 abbrev root_directories : DirectoryMap
 root_directories = from_sorted ((root, empty_directory) ∷ [])
 
-of-root : {X : Type 0} (begun : Moment) (f : Option Inode → X) (q : ℕ)
-    → f (get (root_inodes begun) q) ≡ f (cond (eqb q root) (Some (root_inode begun)) None)
-of-root begun f q = ap f (single-get (root_inode begun) q)
+of-root : {X : Type 0} (owner : Ownership) (begun : Moment) (f : Option Inode → X) (q : ℕ)
+    → f (get (root_inodes owner begun) q) ≡ f (cond (eqb q root) (Some (root_inode owner begun)) None)
+of-root owner begun f q = ap f (single-get (root_inode owner begun) q)
 
-opening-named : (begun : Moment) → AreNamed (root_inodes begun) root_directories
-opening-named begun = record {
-  root_there = of-root begun parent_directory root;
-  as_directories = λ q. ap is_some (single-get empty_directory q) ∙ same (eqb q root) ∙ sym (of-root begun is_directory q);
+opening-named : (owner : Ownership) (begun : Moment) → AreNamed (root_inodes owner begun) root_directories
+opening-named owner begun = record {
+  root_there = of-root owner begun parent_directory root;
+  as_directories = λ q. ap is_some (single-get empty_directory q) ∙ same (eqb q root) ∙ sym (of-root owner begun is_directory q);
   fits = λ q d e. let is = single-is empty_directory d q e in
-      subst (λ x. DirectoryFits (root_inodes begun) q x) (sym is.1) (subst (λ (k : ℕ). DirectoryFits (root_inodes begun) k empty_directory) (sym is.0) (record {
+      subst (λ x. DirectoryFits (root_inodes owner begun) q x) (sym is.1) (subst (λ (k : ℕ). DirectoryFits (root_inodes owner begun) k empty_directory) (sym is.0) (record {
         list = record { cookies = omega arith; names = tt };
         children = tt;
-        links = of-root begun subdirectories_of root;
+        links = of-root owner begun subdirectories_of root;
       }));
   once = λ q. ap (λ (es : List (ℕ × DirectoryValue)). total (λ (d : ℕ
       × DirectoryValue). count (λ (e : Listed). e.fileid == q) d.1.list) es) (single-entries empty_directory)
-      ∙ sym (of-root begun (λ o. one_if (is_some o && not (q == root))) q ∙ unnamed (q == root));
-  rooted = λ q e. (0, directory-root (eqb q root) q (λ h. eqb-true q root h) (sym (of-root begun is_directory q) ∙ e));
+      ∙ sym (of-root owner begun (λ o. one_if (is_some o && not (q == root))) q ∙ unnamed (q == root));
+  rooted = λ q e. (0, directory-root (eqb q root) q (λ h. eqb-true q root h) (sym (of-root owner begun is_directory q) ∙ e));
 }
   where
-    same : (b : Bool) → is_some (cond b (Some empty_directory) None) ≡ is_directory (cond b (Some (root_inode begun)) None)
+    same : (b : Bool) → is_some (cond b (Some empty_directory) None) ≡ is_directory (cond b (Some (root_inode owner begun)) None)
     same true = refl
     same false = refl
 
-    unnamed : (b : Bool) → one_if (is_some (cond b (Some (root_inode begun)) None) && not b) ≡ 0
+    unnamed : (b : Bool) → one_if (is_some (cond b (Some (root_inode owner begun)) None) && not b) ≡ 0
     unnamed true = refl
     unnamed false = refl
 
-    directory-root : (b : Bool) (q : ℕ) → (b ≡ true → q ≡ root) → is_directory (cond b (Some (root_inode begun)) None) ≡ true → q ≡ root
+    directory-root : (b : Bool) (q : ℕ) → (b ≡ true → q ≡ root) → is_directory (cond b (Some (root_inode owner begun)) None) ≡ true → q ≡ root
     directory-root true q is e = is refl
     directory-root false q is e = absurd cc
 
-opening-inodes : (begun : Moment) → IsInodes (record { next = 2; used = 0; inodes = root_inodes begun })
-opening-inodes begun = record {
-  fileids = λ q inode e. let is = (single-is (root_inode begun) inode q e).0 in omega arith;
-  filled = sym (ap (λ es. blocks_filled es) (single-entries (root_inode begun)));
+opening-inodes : (owner : Ownership) (begun : Moment) → IsInodes (record { next = 2; used = 0; inodes = root_inodes owner begun })
+opening-inodes owner begun = record {
+  fileids = λ q inode e. let is = (single-is (root_inode owner begun) inode q e).0 in omega arith;
+  filled = sym (ap (λ es. blocks_filled es) (single-entries (root_inode owner begun)));
 }
 
-opening-sizes : (begun : Moment) (largest q : ℕ) → IfSome (size_of (get (root_inodes begun) q)) (λ size. size ≤ largest)
-opening-sizes begun largest q = subst (λ o. IfSome (size_of o) (λ size. size ≤ largest)) (sym (single-get (root_inode begun) q)) (by (eqb q root))
+opening-sizes : (owner : Ownership) (begun : Moment) (largest q : ℕ) → IfSome (size_of (get (root_inodes owner begun) q)) (λ size. size ≤ largest)
+opening-sizes owner begun largest q = subst (λ o. IfSome (size_of o) (λ size. size ≤ largest)) (sym (single-get (root_inode owner begun) q)) (by (eqb q root))
   where
-    by : (b : Bool) → IfSome (size_of (cond b (Some (root_inode begun)) None)) (λ size. size ≤ largest)
+    by : (b : Bool) → IfSome (size_of (cond b (Some (root_inode owner begun)) None)) (λ size. size ≤ largest)
     by true = tt
     by false = tt
 
-opening-is-logical : (verifier : List ℕ) (stripes largest most steps : ℕ) (begun : Moment) (size remembered : ℕ) → 0 < most
-    → IsLogical (opening_logical verifier stripes largest most steps begun size remembered)
-opening-is-logical verifier stripes largest most steps begun size remembered some = record {
-  inodes = opening-inodes begun;
-  few = let one = len-entries (root_inodes begun) ∙ ap length (single-entries (root_inode begun)) in omega (arith, one, some);
-  sizes = opening-sizes begun largest;
-  named = opening-named begun;
+opening-is-logical : (verifier : List ℕ) (stripes largest most steps : ℕ) (owner : Ownership) (begun : Moment) (size remembered : ℕ) → 0 < most
+    → IsLogical (opening_logical verifier stripes largest most steps owner begun size remembered)
+opening-is-logical verifier stripes largest most steps owner begun size remembered some = record {
+  inodes = opening-inodes owner begun;
+  few = let one = len-entries (root_inodes owner begun) ∙ ap length (single-entries (root_inode owner begun)) in omega (arith, one, some);
+  sizes = opening-sizes owner begun largest;
+  named = opening-named owner begun;
 }
 
 -- ---- stripes without blocks
@@ -206,22 +206,27 @@ range-fits size u r is = ⊎_elim
 
 -- ---- a stripe
 
-opening-fits : (verifier : List ℕ) (stripes largest most steps : ℕ) (begun : Moment) (size remembered i : ℕ)
-    → StripeFits (opening_logical verifier stripes largest most steps begun size remembered) i (opening_stripe verifier stripes largest)
-opening-fits verifier stripes largest most steps begun size remembered i = record {
+opening-fits : (verifier : List ℕ) (stripes largest most steps : ℕ) (owner : Ownership) (begun : Moment) (size remembered i : ℕ)
+    → StripeFits (opening_logical verifier stripes largest most steps owner begun size remembered) i (opening_stripe verifier stripes largest)
+opening-fits verifier stripes largest most steps owner begun size remembered i = record {
   verifier = refl;
   stripes = refl;
   largest = refl;
   cards = λ q. ap (option_map size_shown) (single-get OfDirectory q) ∙ same (eqb q root)
-      ∙ sym (of-root begun (option_map (λ (inode : Inode). size_in inode.kind)) q);
+      ∙ sym (of-root owner begun (option_map (λ (inode : Inode). size_in inode.kind)) q);
+  owners = λ q. ap (option_map owner_shown) (single-get OfDirectory q) ∙ unowned (eqb q root) ∙ sym (of-root owner begun (option_map owner_in) q);
   long = record { long = λ place b e. let none = get-empty {X = Block} file_block_cmp place in absurd cc };
   blocks = λ fileid block b e. let none = get-empty {X = Block} file_block_cmp (fileid, block) in absurd cc;
 }
   where
     same : (b : Bool) → option_map size_shown (cond b (Some OfDirectory) None)
-        ≡ option_map (λ (inode : Inode). size_in inode.kind) (cond b (Some (root_inode begun)) None)
+        ≡ option_map (λ (inode : Inode). size_in inode.kind) (cond b (Some (root_inode owner begun)) None)
     same true = refl
     same false = refl
+
+    unowned : (b : Bool) → option_map owner_shown (cond b (Some OfDirectory) None) ≡ option_map owner_in (cond b (Some (root_inode owner begun)) None)
+    unowned true = refl
+    unowned false = refl
 
 -- ---- a volume
 
@@ -229,7 +234,7 @@ abbrev opening_contents : Layout → List ℕ → ℕ → VolumeContents
 opening_contents layout verifier v = record {
   number = v;
   aggregate = aggregate_of layout v;
-  logical = opening_logical verifier (stripes_of layout v) (largest_of layout v) (inodes_of layout v) (steps_of layout v) (begun_of layout v)
+  logical = opening_logical verifier (stripes_of layout v) (largest_of layout v) (inodes_of layout v) (steps_of layout v) (root_of layout v) (begun_of layout v)
       (range_blocks_of layout v) (remembered_of layout v);
   stripes = each (λ i. opening_stripe verifier (stripes_of layout v) (largest_of layout v)) 0 (stripes_of layout v);
   ranges = each (opening_range (range_blocks_of layout v) (ranges_in (slice_get layout.volumes v))) 0 most_ranges;
@@ -301,17 +306,17 @@ module _ (layout : Layout) (lawful : fault_of layout ≡ None) (verifier : List 
     };
     most_inodes = inodes_between layout v lawful;
     size = range_blocks_size layout v lawful;
-    logical = opening-is-logical verifier n (largest_of layout v) (inodes_of layout v) (steps_of layout v) (begun_of layout v) blocks
+    logical = opening-is-logical verifier n (largest_of layout v) (inodes_of layout v) (steps_of layout v) (root_of layout v) (begun_of layout v) blocks
         (remembered_of layout v) (let least = (inodes_between layout v lawful).0 in omega (arith, least));
     as_many = each-length (λ i. first) 0 n;
     stripes = λ i less.
         let long = each-length (λ k. first) 0 n in
         subst (StripeFits p.logical i) (sym (each-index (λ k. first) no_stripe n i (omega arith)))
-        (opening-fits verifier n (largest_of layout v) (inodes_of layout v) (steps_of layout v) (begun_of layout v) blocks
+        (opening-fits verifier n (largest_of layout v) (inodes_of layout v) (steps_of layout v) (root_of layout v) (begun_of layout v) blocks
         (remembered_of layout v) i);
     used = sym (total-none (λ s. maps.len s.blocks) (λ i. first) 0 n (λ i. maps.len-empty file_block_cmp Block));
     filled = λ q inode e.
-        let is = single-is (root_inode (begun_of layout v)) inode q e in
+        let is = single-is (root_inode (root_of layout v) (begun_of layout v)) inode q e in
         ap (λ (x : Inode). filled_blocks x.kind) is.1 ∙ sym (none-filled first refl n q);
     sixteen = each-length (opening_range blocks u) 0 most_ranges;
     some = (let used = in-use in let least = ranges-some layout lawful v on in omega arith);
@@ -355,18 +360,18 @@ module _ {P : Type 0} (layout : Layout) (lawful : fault_of layout ≡ None) (ver
       let opens : p ≡ opening_contents layout verifier v = sym same ∙ contents-open layout verifier f is v on in
       subst (λ (x : VolumeContents). (x.number ≡ v) × IsSound x [] 0) (sym opens) (refl, opening-is-sound layout lawful verifier v on)
 
-root-nodes : (begun : Moment) (stripes : List StripeValue)
-    → map_values (node_of stripes root_directories) (root_inodes begun) ≡ from_sorted ((root, root_node begun) ∷ [])
-root-nodes begun stripes = same_map nat_cmp_total nat_cmp-IsAntisymmetric _ _ (λ q.
-    get-map_values nat_cmp_total nat_cmp-IsAntisymmetric (node_of stripes root_directories) (root_inodes begun) q
-    ∙ of-root begun (option_map (node_of stripes root_directories q)) q
+root-nodes : (owner : Ownership) (begun : Moment) (stripes : List StripeValue)
+    → map_values (node_of stripes root_directories) (root_inodes owner begun) ≡ from_sorted ((root, root_node owner begun) ∷ [])
+root-nodes owner begun stripes = same_map nat_cmp_total nat_cmp-IsAntisymmetric _ _ (λ q.
+    get-map_values nat_cmp_total nat_cmp-IsAntisymmetric (node_of stripes root_directories) (root_inodes owner begun) q
+    ∙ of-root owner begun (option_map (node_of stripes root_directories q)) q
     ∙ by (eqb q root) q (λ h. eqb-true q root h)
-    ∙ sym (single-get (root_node begun) q))
+    ∙ sym (single-get (root_node owner begun) q))
   where
     by : (b : Bool) (q : ℕ) → (b ≡ true → q ≡ root)
-        → option_map (node_of stripes root_directories q) (cond b (Some (root_inode begun)) None) ≡ cond b (Some (root_node begun)) None
-    by true q h = ap (λ (k : ℕ). Some (node_of stripes root_directories k (root_inode begun))) (h refl)
-        ∙ ap (λ o. Some (node_by stripes o root (root_inode begun).attributes (root_inode begun).kind)) (single-get empty_directory root)
+        → option_map (node_of stripes root_directories q) (cond b (Some (root_inode owner begun)) None) ≡ cond b (Some (root_node owner begun)) None
+    by true q h = ap (λ (k : ℕ). Some (node_of stripes root_directories k (root_inode owner begun))) (h refl)
+        ∙ ap (λ o. Some (node_by stripes o root (root_inode owner begun).attributes (root_inode owner begun).kind)) (single-get empty_directory root)
     by false q h = refl
 
 volume-opens : (layout : Layout) (verifier : List ℕ) (v : ℕ) (x : VolumeLayout) → fault_of layout ≡ None → slice_get layout.volumes v ≡ Some x
@@ -386,8 +391,8 @@ volume-opens layout verifier v x lawful there =
       most_steps = steps_in (there j);
       verifier = verifier;
       next = 2;
-      nodes = (root-nodes (begun_of layout v) (opening_contents layout verifier v).stripes
-          ∙ ap (λ o. from_sorted ((root, root_node (begun_in o)) ∷ [])) there) j;
+      nodes = (root-nodes (root_of layout v) (begun_of layout v) (opening_contents layout verifier v).stripes
+          ∙ ap (λ o. from_sorted ((root, root_node (root_in o) (begun_in o)) ∷ [])) there) j;
       memos = replicate (remembered_in (there j)) None;
     }
 

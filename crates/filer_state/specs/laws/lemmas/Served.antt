@@ -105,11 +105,11 @@ placed-server server absent v (Changes answer volume) old there = refl
 
 -- where a call moves, by what its handle names and by the parts of its volume
 move-by : (store : Store) (q : VolumeCall) (p : VolumeContents) → locate store.server (handle_in q.call) ≡ Some (located_on q p)
-    → parts_at store.parts (volume_above q.node) ≡ Some (parts_of p) → move_of_call store q.node q.call ≡ move_on q p
+    → parts_at store.parts (volume_above q.node) ≡ Some (parts_of p) → move_of_call store q.node q.call q.caller ≡ move_on q p
 move-by store q p located parts = by q.call located
   where
-    by : (call : Call) → locate store.server (handle_in call) ≡ Some (located_on q p) → move_of_call store q.node call ≡ move_of_located call q p
-    by (Write handle offset count written) e = λ j. move_if (parts j) q.node (ready_at (e j) offset count (length written))
+    by : (call : Call) → locate store.server (handle_in call) ≡ Some (located_on q p) → move_of_call store q.node call q.caller ≡ move_of_located call q p
+    by (Write handle offset count written) e = λ j. move_if (parts j) q.node (ready_at (e j) q.caller offset count (length written))
     by call e = refl
 
 -- a call with a handle isn't GROW, so it changes the parts of the volume above its node
@@ -137,8 +137,8 @@ module _ (layout : Layout) (v : ℕ) (q : VolumeCall) (connection number xid : �
   step : serve (server_of c) q.call caller moment ≡ placed (server_of c) (absent_parts q.call) v (q.run (volume_of p))
   step = is.served (server_of c) (volume_of p) count (server-there c v p there)
 
-  pub stays : move_of_call (stored_all c) q.node q.call ≡ move_on q p
-  stays = move-by (stored_all c) q p located (ap (parts_at (all_parts c)) is.under ∙ parts-there c v p there)
+  pub stays : move_of_call (stored_all c) q.node q.call caller ≡ move_on q p
+  stays = ap (move_of_call (stored_all c) q.node q.call) (sym is.called) ∙ move-by (stored_all c) q p located (ap (parts_at (all_parts c)) is.under ∙ parts-there c v p there)
 
   told : (serve (server_of c) q.call caller moment).reply ≡ Success (answer_on q p)
   told = ap (λ (s : Step). s.reply) step ∙ placed-reply (server_of c) (absent_parts q.call) v (q.run (volume_of p))

@@ -1,9 +1,9 @@
 -- READDIRPLUS by what is under Logical.
 use Rattle.std.proofs.Common.{◌≡◌, ℕ, Bool, true, false, List, [], ◌∷◌, Some, None, Option, refl, sym, ap, ◌∙◌, subst}
-use Rattle.std.specs.Prelude.{min, nat_lt, if◌then◌else◌, IsTrue}
+use Rattle.std.specs.Prelude.{min, not, ◌&&◌, nat_lt, if◌then◌else◌, IsTrue}
 use Rattle.std.specs.Option.{option_map}
 use Rattle.std.specs.FinMap.{get}
-use Rattle.nfs_model.specs.Types.{Listed, ListedPlus, Shown, Success, BadCookie, TooSmall, Failed, Answer, Readdirplus, ReaddirplusDone}
+use Rattle.nfs_model.specs.Types.{DirectoryKind, Caller, Listed, ListedPlus, Shown, Success, BadCookie, TooSmall, Failed, Answer, Readdirplus, ReaddirplusDone}
 use Rattle.nfs_model.specs.Tree.{Affinity}
 use Rattle.nfs_model.specs.Serial.Starve.{takes_memory}
 use Rattle.nfs_model.specs.Work.{Starved}
@@ -11,7 +11,8 @@ use Rattle.nfs_model.specs.Server.{Directory, VolumeState, most_bytes, handle_by
 use Rattle.nfs_model.specs.Shown.{shown}
 use Rattle.nfs_model.specs.Locate.{Fails}
 use Rattle.nfs_model.specs.Serial.Readdir.{all_listed, above_cookie}
-use Rattle.nfs_model.specs.Serial.Readdirplus.{shown_at, listed_plus, page_plus, page_plus_of, paged_plus, readdirplus_from}
+use Rattle.nfs_model.specs.Serial.Readdirplus.{shown_at, listed_bare, listed_plus, listed_for, page_plus, page_plus_of, paged_plus, readdirplus_from}
+use Rattle.nfs_model.specs.Serial.Rights.{may_search, protected}
 use Rattle.nfs_model.specs.volume.Inodes.{Inode}
 use Rattle.filer_state.specs.state.Contents.{VolumeContents}
 use Rattle.filer_state.specs.state.Tree.{volume_of, node_of, file_touch}
@@ -22,7 +23,7 @@ use Rattle.filer_state.specs.state.Promises.{RightOnVolume}
 use Rattle.filer_state.specs.state.Calls.{ServesOn, WorksOn, answer_of, answer_on, volume_left}
 use Rattle.filer_state.specs.state.Changes.{shown_inode}
 use Rattle.filer_state.specs.attributes.lemmas.Getting.{node-at, node-shown}
-use Rattle.filer_state.specs.names.Answers.{is_bad_cookie, object_in, entry_told, readdirplus_answer}
+use Rattle.filer_state.specs.names.Answers.{is_bad_cookie, object_in, entry_told, entry_for, readdirplus_answer}
 use Rattle.filer_state.specs.names.Laws.{readdirplus_call}
 use Rattle.filer_state.specs.names.lemmas.Telling.{tells-right, starves-right}
 use Rattle.filer_state.specs.names.lemmas.DirectoryKinds.{directory-stays, directory_at, directory-kind-told, directory-kind-shown}
@@ -64,38 +65,45 @@ module _ (p : VolumeContents) (well : WellFormed p) where
       by (Some inode) there = ap Some (sym (node-shown p well fileid inode there))
 
   entries-told : entry_told p.number (logical_lens.of p) ≡ listed_plus (volume_of p)
-  entries-told = λ j e. record { entry = e; attributes = node-told e.fileid j; handle = handle_bytes p.number e.fileid }
+  entries-told = λ j e. record { entry = e; attributes = node-told e.fileid j; handle = Some (handle_bytes p.number e.fileid) }
 
-module _ (v fileid : ℕ) (handle : List ℕ) (node : Affinity) (cookie : ℕ) (verifier : List ℕ) (names_count count : ℕ) where
+  -- and what a caller is told of an entry
+  entries-for : (fileid : ℕ) (caller : Caller) (inode : Inode) (parent : ℕ)
+      → entry_for caller p.number (logical_lens.of p) inode ≡ listed_for caller (volume_of p) (directory_at p fileid inode parent)
+  entries-for fileid caller inode parent = λ j e.
+      if caller.checked && not (may_search caller.credential (protected DirectoryKind inode.attributes)) then listed_bare e
+      else entries-told j e
+
+module _ (v fileid : ℕ) (handle : List ℕ) (node : Affinity) (cookie : ℕ) (verifier : List ℕ) (names_count count : ℕ) (caller : Caller) where
   -- by the directory's inode and entries, and by the inodes of these
   readdirplus-told : (p : VolumeContents) → WellFormed p
-      → readdirplus_answer p.number fileid cookie verifier names_count count (logical_lens.of p)
-      ≡ answer_on (readdirplus_call handle node fileid cookie verifier names_count count) p
+      → readdirplus_answer p.number fileid cookie verifier names_count count caller (logical_lens.of p)
+      ≡ answer_on (readdirplus_call handle node fileid cookie verifier names_count count caller) p
   readdirplus-told p well =
       directory-kind-told p fileid _ _ (λ inode parent subs there is.
       listing-told (is_bad_cookie cookie verifier) (min names_count most_bytes) (min count most_bytes)
-      (entry_told p.number (logical_lens.of p)) (listed_plus (volume_of p))
+      (entry_for caller p.number (logical_lens.of p) inode) (listed_for caller (volume_of p) (directory_at p fileid inode parent))
       (shown_inode p.number fileid inode None) (shown (volume_of p) fileid (Directory (directory_at p fileid inode parent)))
       (above_cookie cookie (all_listed fileid (directory_at p fileid inode parent)))
-      (entries-told p well) (sym (directory-kind-shown p fileid well inode parent subs there is)))
+      (entries-for p well fileid caller inode parent) (sym (directory-kind-shown p fileid well inode parent subs there is)))
 
   pub readdirplus-right : (set : LogicalSet)
-      → RightOnVolume v logical_lens (ServesOn (readdirplus_call handle node fileid cookie verifier names_count count) false) [] [] set
-      (Replied (Success (readdirplus_answer v fileid cookie verifier names_count count set))) set
+      → RightOnVolume v logical_lens (ServesOn (readdirplus_call handle node fileid cookie verifier names_count count caller) false) [] [] set
+      (Replied (Success (readdirplus_answer v fileid cookie verifier names_count count caller set))) set
   readdirplus-right =
-      tells-right v (readdirplus_call handle node fileid cookie verifier names_count count)
-      (λ n s. readdirplus_answer n fileid cookie verifier names_count count s) (λ p. refl) (λ p. refl)
+      tells-right v (readdirplus_call handle node fileid cookie verifier names_count count caller)
+      (λ n s. readdirplus_answer n fileid cookie verifier names_count count caller s) (λ p. refl) (λ p. refl)
       (λ p. directory-stays (volume_of p) (get (volume_of p).nodes fileid) _ (λ d.
-      listing-stays (volume_of p) (min count most_bytes) (listed_plus (volume_of p)) (shown (volume_of p) fileid (Directory d))
+      listing-stays (volume_of p) (min count most_bytes) (listed_for caller (volume_of p) d) (shown (volume_of p) fileid (Directory d))
       (is_bad_cookie cookie verifier) (min names_count most_bytes) (above_cookie cookie (all_listed fileid d))))
       readdirplus-told
 
   -- memory may run out where it would list
   pub readdirplus-starves : (set : LogicalSet) (directory : Shown) (page : List ListedPlus) (eof : Bool)
-      → readdirplus_answer v fileid cookie verifier names_count count set ≡ ReaddirplusDone directory page eof
-      → RightOnVolume v logical_lens (WorksOn (readdirplus_call handle node fileid cookie verifier names_count count)) [] [] set Starved set
+      → readdirplus_answer v fileid cookie verifier names_count count caller set ≡ ReaddirplusDone directory page eof
+      → RightOnVolume v logical_lens (WorksOn (readdirplus_call handle node fileid cookie verifier names_count count caller)) [] [] set Starved set
   readdirplus-starves set directory page eof lists =
-      starves-right v (readdirplus_call handle node fileid cookie verifier names_count count)
-      (λ n s. readdirplus_answer n fileid cookie verifier names_count count s) (λ p. refl)
+      starves-right v (readdirplus_call handle node fileid cookie verifier names_count count caller)
+      (λ n s. readdirplus_answer n fileid cookie verifier names_count count caller s) (λ p. refl)
       readdirplus-told set (λ server answer is.
       subst (λ (a : Answer). IsTrue (takes_memory server (Readdirplus handle cookie verifier names_count count) a)) (sym lists ∙ is) refl)

@@ -2,7 +2,7 @@
 use Rattle.std.proofs.Common.{◌≡◌, ℕ, false, List, [], Some, None, Option, refl, sym, ap, ◌∙◌}
 use Rattle.std.specs.Option.{option_map}
 use Rattle.std.specs.FinMap.{get}
-use Rattle.nfs_model.specs.Types.{Credential, Shown, Answer, AccessDone, FsinfoDone, PathconfDone, Success}
+use Rattle.nfs_model.specs.Types.{Caller, Shown, Answer, AccessDone, FsinfoDone, PathconfDone, Success}
 use Rattle.nfs_model.specs.Tree.{Affinity}
 use Rattle.nfs_model.specs.Server.{Node, VolumeState}
 use Rattle.nfs_model.specs.Shown.{shown}
@@ -44,13 +44,13 @@ module _ (p : VolumeContents) (well : WellFormed p) (fileid : ℕ) (answer : Sho
       ∙ ap (λ (o : Option Node). answer_of 1 (on_node o (λ node. Tells (answer (shown (volume_of p) fileid node))))) (sym (node-at p fileid))
 
 module _ (v fileid : ℕ) (handle : List ℕ) (node : Affinity) where
-  pub access-right : (asked : ℕ) (who : Credential) (set : LogicalSet)
-      → RightOnVolume v logical_lens (ServesOn (access_call handle node fileid asked who) false) [] [] set
-      (Replied (Success (access_answer v fileid asked who set))) set
-  access-right asked who =
-      tells-right v (access_call handle node fileid asked who) (λ n s. access_answer n fileid asked who s) (λ p. refl) (λ p. refl)
-      (λ p. object-stays (volume_of p) fileid (λ object. AccessDone object (access_given who asked object)) (get (volume_of p).nodes fileid))
-      (λ p well. object-told p well fileid (λ object. AccessDone object (access_given who asked object)))
+  pub access-right : (asked : ℕ) (caller : Caller) (set : LogicalSet)
+      → RightOnVolume v logical_lens (ServesOn (access_call handle node fileid asked caller) false) [] [] set
+      (Replied (Success (access_answer v fileid asked caller set))) set
+  access-right asked caller =
+      tells-right v (access_call handle node fileid asked caller) (λ n s. access_answer n fileid asked caller s) (λ p. refl) (λ p. refl)
+      (λ p. object-stays (volume_of p) fileid (λ object. AccessDone object (access_given caller asked object)) (get (volume_of p).nodes fileid))
+      (λ p well. object-told p well fileid (λ object. AccessDone object (access_given caller asked object)))
 
   pub fsinfo-right : (set : LogicalSet)
       → RightOnVolume v logical_lens (ServesOn (fsinfo_call handle node fileid) false) [] [] set (Replied (Success (fsinfo_answer v fileid set))) set
@@ -59,8 +59,10 @@ module _ (v fileid : ℕ) (handle : List ℕ) (node : Affinity) where
       (λ p. object-stays (volume_of p) fileid (λ object. FsinfoDone object (volume_of p).largest) (get (volume_of p).nodes fileid))
       (λ p well. object-told p well fileid (λ object. FsinfoDone object p.logical.largest))
 
-  pub pathconf-right : (set : LogicalSet)
-      → RightOnVolume v logical_lens (ServesOn (pathconf_call handle node fileid) false) [] [] set (Replied (Success (pathconf_answer v fileid set))) set
-  pathconf-right =
-      tells-right v (pathconf_call handle node fileid) (λ n s. pathconf_answer n fileid s) (λ p. refl) (λ p. refl)
-      (λ p. object-stays (volume_of p) fileid PathconfDone (get (volume_of p).nodes fileid)) (λ p well. object-told p well fileid PathconfDone)
+  pub pathconf-right : (caller : Caller) (set : LogicalSet)
+      → RightOnVolume v logical_lens (ServesOn (pathconf_call handle node fileid caller) false) [] [] set
+      (Replied (Success (pathconf_answer v fileid caller set))) set
+  pathconf-right caller =
+      tells-right v (pathconf_call handle node fileid caller) (λ n s. pathconf_answer n fileid caller s) (λ p. refl) (λ p. refl)
+      (λ p. object-stays (volume_of p) fileid (λ object. PathconfDone object caller.checked) (get (volume_of p).nodes fileid))
+      (λ p well. object-told p well fileid (λ object. PathconfDone object caller.checked))

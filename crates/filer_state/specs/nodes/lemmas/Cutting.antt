@@ -10,14 +10,13 @@ use Rattle.std.specs.Option.{option_map}
 use Rattle.std.specs.FinMap.{get, len, entries, retain_keys, get-retain_keys, len-entries}
 use Rattle.nfs_model.specs.Server.{block_size}
 use Rattle.nfs_model.specs.Parts.{one_if, count, times_listed}
-use Rattle.nfs_model.specs.volume.Stripes.{FileBlock, Block, StripeValue, byte_of, byte_cut, block_mapped, file_mapped, is_past}
+use Rattle.nfs_model.specs.volume.Stripes.{FileBlock, Block, StripeValue, byte_of, byte_cut, block_mapped, file_mapped, is_past, cut, touch_taken}
 use Rattle.nfs_model.specs.volume.Stripes.{numbers_freed}
 use Rattle.nfs_model.specs.volume.lemmas.Entries.{place_total, place_same}
 use Rattle.nfs_model.specs.volume.lemmas.Maps.{get-map_values}
 use Rattle.nfs_model.specs.volume.lemmas.Numbered.{itself}
 use Rattle.filer_state.specs.state.Partition.{times_in_stripe}
 use Rattle.filer_state.specs.laws.lemmas.Mapped.{entries-map_values, changed_by}
-use Rattle.filer_state.specs.nodes.Sizing.{stripe_sized}
 use Rattle.filer_state.specs.nodes.lemmas.Counting.{is_of, blocks_in, entries-retained}
 
 module _ (f size : ℕ) where
@@ -30,7 +29,7 @@ module _ (f size : ℕ) where
   -- ---- what is found
 
   cut-found : (s : StripeValue) (q : FileBlock)
-      → get (stripe_sized f size s).blocks q ≡ option_map (cut_block q) (cond (kept q) (get s.blocks q) None)
+      → get (cut f size (touch_taken f s)).blocks q ≡ option_map (cut_block q) (cond (kept q) (get s.blocks q) None)
   cut-found s q =
       get-map_values place_total place_same cut_block (retain_keys s.blocks kept) q
       ∙ ap (option_map (cut_block q)) (get-retain_keys s.blocks kept q (λ x e. ap kept (sym (place_same q x e))))
@@ -39,7 +38,7 @@ module _ (f size : ℕ) where
   not-past : (q block : ℕ) → (q == f) ≡ false → kept (q, block) ≡ true
   not-past q block ne = ap (λ (b : Bool). not (b && nat_le size (block_size * block))) ne
 
-  pub cut-other : (s : StripeValue) (q block : ℕ) → (q == f) ≡ false → get (stripe_sized f size s).blocks (q, block) ≡ get s.blocks (q, block)
+  pub cut-other : (s : StripeValue) (q block : ℕ) → (q == f) ≡ false → get (cut f size (touch_taken f s)).blocks (q, block) ≡ get s.blocks (q, block)
   cut-other s q block ne =
       cut-found s (q, block)
       ∙ ap (λ (b : Bool). option_map (cut_block (q, block)) (cond b (get s.blocks (q, block)) None)) (not-past q block ne)
@@ -56,7 +55,7 @@ module _ (f size : ℕ) where
       turned : (n : ℕ) → not (nat_le size n) ≡ nat_lt n size
       turned n = grind (arith, nat_tests)
 
-  pub cut-here : (s : StripeValue) (block : ℕ) → get (stripe_sized f size s).blocks (f, block)
+  pub cut-here : (s : StripeValue) (block : ℕ) → get (cut f size (touch_taken f s)).blocks (f, block)
       ≡ option_map (block_mapped (byte_cut size) block) (cond (nat_lt (block_size * block) size) (get s.blocks (f, block)) None)
   cut-here s block =
       cut-found s (f, block)
@@ -114,7 +113,7 @@ module _ (f size : ℕ) where
   abbrev numbers_of : List PlacedBlock → List ℕ
   numbers_of es = map number_of es
 
-  entries-cut : (s : StripeValue) → entries (stripe_sized f size s).blocks ≡ changed_by cut_block (filter kept_entry (entries s.blocks))
+  entries-cut : (s : StripeValue) → entries (cut f size (touch_taken f s)).blocks ≡ changed_by cut_block (filter kept_entry (entries s.blocks))
   entries-cut s =
       entries-map_values cut_block place_total place_same (retain_keys s.blocks kept)
       ∙ ap (changed_by cut_block) (entries-retained s.blocks kept)
@@ -177,25 +176,25 @@ module _ (f size : ℕ) where
   of-changed (e ∷ es) = let others = of-changed es in omega (arith, others)
 
   -- what leaves a stripe, and what stays, are all that it had
-  pub cut-len : (s : StripeValue) → len (stripe_sized f size s).blocks + length (numbers_freed f size s) ≡ len s.blocks
+  pub cut-len : (s : StripeValue) → len (cut f size (touch_taken f s)).blocks + length (numbers_freed f size s) ≡ len s.blocks
   cut-len s =
       let was = len-entries s.blocks in
-      let is = len-entries (stripe_sized f size s).blocks ∙ ap length (entries-cut s)
+      let is = len-entries (cut f size (touch_taken f s)).blocks ∙ ap length (entries-cut s)
       ∙ length-map (filter kept_entry (entries s.blocks)) (λ e. (e.0, cut_block e.0 e.1)) in
       let freed = length-map (filter past_entry (entries s.blocks)) number_of in
       let both = split-length (entries s.blocks) in
       omega (arith, was, is, freed, both)
 
-  pub cut-times : (n : ℕ) (s : StripeValue) → times_in_stripe n (stripe_sized f size s) + times_listed n (numbers_freed f size s) ≡ times_in_stripe n s
+  pub cut-times : (n : ℕ) (s : StripeValue) → times_in_stripe n (cut f size (touch_taken f s)) + times_listed n (numbers_freed f size s) ≡ times_in_stripe n s
   cut-times n s =
-      let is : times_in_stripe n (stripe_sized f size s) ≡ times_listed n (numbers_of (filter kept_entry (entries s.blocks))) =
+      let is : times_in_stripe n (cut f size (touch_taken f s)) ≡ times_listed n (numbers_of (filter kept_entry (entries s.blocks))) =
       ap (λ es. times_listed n (numbers_of es)) (entries-cut s) ∙ ap (times_listed n) (numbers-changed (filter kept_entry (entries s.blocks))) in
       let both = split-times n (entries s.blocks) in
       omega (arith, is, both)
 
-  pub cut-of : (s : StripeValue) → blocks_in f (stripe_sized f size s) + length (numbers_freed f size s) ≡ blocks_in f s
+  pub cut-of : (s : StripeValue) → blocks_in f (cut f size (touch_taken f s)) + length (numbers_freed f size s) ≡ blocks_in f s
   cut-of s =
-      let is : blocks_in f (stripe_sized f size s) ≡ count (is_of f) (filter kept_entry (entries s.blocks)) =
+      let is : blocks_in f (cut f size (touch_taken f s)) ≡ count (is_of f) (filter kept_entry (entries s.blocks)) =
       ap (count (is_of f)) (entries-cut s) ∙ of-changed (filter kept_entry (entries s.blocks)) in
       let freed = length-map (filter past_entry (entries s.blocks)) number_of in
       let both = split-of (entries s.blocks) in

@@ -8,7 +8,8 @@ use Rattle.std.specs.Option.{option_map}
 use Rattle.std.specs.Cmp.{nat_cmp_total}
 use Rattle.std.specs.FinMap.{get, insert, remove, len, nat_cmp-IsAntisymmetric}
 use Rattle.std.specs.FinSet as sets
-use Rattle.nfs_model.specs.Server.{Node, File, Directory, block_size}
+use Rattle.nfs_model.specs.Server.{Attributes, Node, File, Directory, block_size}
+use Rattle.nfs_model.specs.Serial.Rights.{ownership_of}
 use Rattle.nfs_model.specs.Names.{dropped_name}
 use Rattle.nfs_model.specs.Parts.{Hand}
 use Rattle.depot_rule.specs.Sums.{total}
@@ -21,7 +22,7 @@ use Rattle.nfs_model.specs.volume.lemmas.Numbered.{get-insert_at, get-remove_at,
 use Rattle.filer_state.specs.state.Contents.{VolumeContents}
 use Rattle.filer_state.specs.state.Tree.{stripe_at, file_filled, file_touch, later, directory_or_empty, node_by, node_of, volume_of}
 use Rattle.filer_state.specs.state.Names.{size_in, size_of, parent_in}
-use Rattle.filer_state.specs.state.WellFormed.{StripeFits, WellFormed, size_shown}
+use Rattle.filer_state.specs.state.WellFormed.{StripeFits, WellFormed, size_shown, owner_shown, owner_by, owner_in}
 use Rattle.filer_state.specs.state.Partition.{times_in_stripe, times_in_hand}
 use Rattle.filer_state.specs.state.Sound.{IsSound}
 use Rattle.filer_state.specs.state.Lenses.{logical_lens}
@@ -52,6 +53,12 @@ module _ (f : ℕ) where
 -- the volume after a node is dropped
 abbrev pub left_in : Dropping → VolumeContents → VolumeContents
 left_in m p = logical_lens.put (node_dropped m (logical_lens.of p)) p
+
+-- the owner of a directory that has fewer subdirectories
+owner-kept : (fewer : ℕ) (a b : Attributes) → ownership_of b ≡ ownership_of a → (k : InodeKind)
+    → owner_by b (without_subdirectories fewer k) ≡ owner_by a k
+owner-kept fewer a b is (RegularFile size filled verifier) = ap Some is
+owner-kept fewer a b is (DirectoryKind parent subdirectories) = refl
 
 filled-kept : (fewer : ℕ) (k : InodeKind) → filled_blocks (without_subdirectories fewer k) ≡ filled_blocks k
 filled-kept fewer (RegularFile size filled verifier) = refl
@@ -117,6 +124,17 @@ module _ (p : VolumeContents) (m : Dropping) (well : WellFormed p) (may : LosesN
       ∙ sym (ap (option_map shown_size) at-dropped))
       (λ q ne left. ap (option_map size_shown) (card-other m.fileid s q left) ∙ fits q ∙ sym (ap (option_map shown_size) (at-other q ne left)))
 
+  owners-after : (s : StripeValue) → ((q : ℕ) → option_map owner_shown (get s.cards q) ≡ option_map owner_in (inode_of old q))
+      → (q : ℕ) → option_map owner_shown (get (card_dropped m.fileid s).cards q) ≡ option_map owner_in (inode_of new q)
+  owners-after s fits = by-fileid (λ q. option_map owner_shown (get (card_dropped m.fileid s).cards q) ≡ option_map owner_in (inode_of new q))
+      (ap (option_map owner_shown) (card-other m.fileid s m.directory apart) ∙ fits m.directory ∙ ap (option_map owner_in) may.there
+      ∙ ap Some (sym (owner-kept (directories_in m.dropped.kind) m.inode.attributes (directory_left m).attributes refl m.inode.kind))
+      ∙ sym (ap (option_map owner_in) at-directory))
+      (ap (option_map owner_shown) (card-left m.fileid s m.fileid)
+      ∙ ap (λ (b : Bool). option_map owner_shown (if b then None else get s.cards m.fileid)) (itself m.fileid)
+      ∙ sym (ap (option_map owner_in) at-dropped))
+      (λ q ne left. ap (option_map owner_shown) (card-other m.fileid s q left) ∙ fits q ∙ sym (ap (option_map owner_in) (at-other q ne left)))
+
   -- a block is of another file
   other-block : (q block size : ℕ) → size_of (inode_of old q) ≡ Some size → block_size * block < size → size_of (inode_of new q) ≡ Some size
   other-block q block size says less = by (q == m.fileid) refl
@@ -134,6 +152,7 @@ module _ (p : VolumeContents) (m : Dropping) (well : WellFormed p) (may : LosesN
     stripes = fits.stripes;
     largest = fits.largest;
     cards = shown-after s fits.cards;
+    owners = owners-after s fits.owners;
     long = record { long = fits.long.long };
     blocks = λ fileid block b e.
         let was = fits.blocks fileid block b e in

@@ -11,6 +11,7 @@ use Rattle.nfs_model.specs.Moves.{Emptied}
 use Rattle.depot_rule.specs.Sums.{total}
 use Rattle.nfs_model.specs.volume.Inodes.{RegularFile, filled_blocks}
 use Rattle.nfs_model.specs.volume.lemmas.Inodes.{used-set}
+use Rattle.nfs_model.specs.Serial.Rights.{ownership_of}
 use Rattle.filer_state.specs.state.Contents.{VolumeContents}
 use Rattle.filer_state.specs.state.Tree.{volume_of, ranges_used}
 use Rattle.filer_state.specs.state.Partition.{parts_of, all_numbers, files_in, times_in_stripe, StandOnce}
@@ -44,11 +45,11 @@ module _ (p : VolumeContents) (m : Sizing) (hands : List Hand) (partition : Stan
   stands n = listed-times n (all_numbers p.stripes) (let all = all-times n p.stripes in let most = once n in omega (arith, all, most))
 
   leaves : (n : ℕ) → one_if (contains (from_list {R = nat_cmp} freed) n) ≡ times_listed n freed
-  leaves n = listed-times n freed (let left = freed-times m.fileid m.size n p.stripes in let most = once n in omega (arith, left, most))
+  leaves n = listed-times n freed (let left = freed-times m.fileid m.size (ownership_of m.attributes) n p.stripes in let most = once n in omega (arith, left, most))
 
   stays : (n : ℕ) → one_if (contains (files_in after.stripes) n) ≡ times_listed n (all_numbers after.stripes)
   stays n = listed-times n (all_numbers after.stripes)
-      (let all = all-times n after.stripes in let left = freed-times m.fileid m.size n p.stripes in let most = once n in omega (arith, all, left, most))
+      (let all = all-times n after.stripes in let left = freed-times m.fileid m.size (ownership_of m.attributes) n p.stripes in let most = once n in omega (arith, all, left, most))
 
   both : (n : ℕ) → one_if (contains (files_in after.stripes) n) + one_if (contains (from_list {R = nat_cmp} freed) n) ≡ one_if (contains (files_in p.stripes) n)
   both n =
@@ -57,7 +58,7 @@ module _ (p : VolumeContents) (m : Sizing) (hands : List Hand) (partition : Stan
       let is = stays n in
       let old = all-times n p.stripes in
       let new = all-times n after.stripes in
-      let left = freed-times m.fileid m.size n p.stripes in
+      let left = freed-times m.fileid m.size (ownership_of m.attributes) n p.stripes in
       omega (arith, was, goes, is, old, new, left)
 
   rest-is : (a b c : Bool) → one_if a + one_if b ≡ one_if c → a ≡ (c && not b)
@@ -78,7 +79,7 @@ module _ (p : VolumeContents) (m : Sizing) (hands : List Hand) (partition : Stan
 
   count-of : sets.len (from_list {R = nat_cmp} freed) ≡ used (volume_of p) - used (volume_of after)
   count-of =
-      let size = len-listed freed (λ n. let left = freed-times m.fileid m.size n p.stripes in let most = once n in omega (arith, left, most)) in
+      let size = len-listed freed (λ n. let left = freed-times m.fileid m.size (ownership_of m.attributes) n p.stripes in let most = once n in omega (arith, left, most)) in
       let was = used-is p well in
       let is = used-is after (well-sized p m well there old_size filled verifier is_file small) in
       let set = used-set p.logical.inodes m.fileid m.inode (inode_sized m (length freed)) well.logical.inodes there in

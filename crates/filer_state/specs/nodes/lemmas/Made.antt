@@ -10,6 +10,9 @@ use Rattle.std.specs.Ordering.{nat_cmp}
 use Rattle.std.specs.Cmp.{nat_cmp_total}
 use Rattle.std.specs.FinMap.{get, len, nat_cmp-IsAntisymmetric}
 use Rattle.std.specs.FinSet as sets
+use Rattle.nfs_model.specs.Types.{Ownership}
+use Rattle.nfs_model.specs.Server.{Attributes}
+use Rattle.nfs_model.specs.Serial.Rights.{ownership_of}
 use Rattle.nfs_model.specs.Parts.{Hand}
 use Rattle.depot_rule.specs.Sums.{total}
 use Rattle.nfs_model.specs.volume.Directories.{DirectoryValue, empty_directory, added}
@@ -20,7 +23,7 @@ use Rattle.nfs_model.specs.volume.lemmas.Numbered.{get-insert_at, itself}
 use Rattle.filer_state.specs.state.Contents.{VolumeContents}
 use Rattle.filer_state.specs.state.Tree.{stripe_at, home_stripe, file_filled, file_touch, later, most_file_blocks}
 use Rattle.filer_state.specs.state.Names.{DirectoryMap, size_in, size_of, AreNamed}
-use Rattle.filer_state.specs.state.WellFormed.{StripeFits, WellFormed, size_shown}
+use Rattle.filer_state.specs.state.WellFormed.{StripeFits, WellFormed, size_shown, owner_shown, owner_by, owner_in}
 use Rattle.filer_state.specs.state.Partition.{times_in_stripe, times_in_hand}
 use Rattle.filer_state.specs.state.Sound.{IsSound}
 use Rattle.filer_state.specs.state.Lenses.{logical_lens}
@@ -35,48 +38,48 @@ use Rattle.filer_state.specs.nodes.Laws.{IsNewIn, MayBeMade}
 abbrev shown_size : Inode → Option ℕ
 shown_size inode = size_in inode.kind
 
-module _ (k : InodeKind) (f : ℕ) where
+module _ (owner : Ownership) (k : InodeKind) (f : ℕ) where
   abbrev card_of_kind : InodeKind → Card
-  card_of_kind (RegularFile size filled verifier) = OfFile size None
+  card_of_kind (RegularFile size filled verifier) = OfFile size None owner
   card_of_kind (DirectoryKind parent subdirectories) = OfDirectory
 
-  pub blocks-same : (s : StripeValue) → (card_made k f s).blocks ≡ s.blocks
+  pub blocks-same : (s : StripeValue) → (card_made owner k f s).blocks ≡ s.blocks
   blocks-same s = by k
     where
-      by : (kind : InodeKind) → (card_made kind f s).blocks ≡ s.blocks
+      by : (kind : InodeKind) → (card_made owner kind f s).blocks ≡ s.blocks
       by (RegularFile size filled verifier) = refl
       by (DirectoryKind parent subdirectories) = refl
 
-  verifier-same : (s : StripeValue) → (card_made k f s).verifier ≡ s.verifier
+  verifier-same : (s : StripeValue) → (card_made owner k f s).verifier ≡ s.verifier
   verifier-same s = by k
     where
-      by : (kind : InodeKind) → (card_made kind f s).verifier ≡ s.verifier
+      by : (kind : InodeKind) → (card_made owner kind f s).verifier ≡ s.verifier
       by (RegularFile size filled verifier) = refl
       by (DirectoryKind parent subdirectories) = refl
 
-  stripes-same : (s : StripeValue) → (card_made k f s).stripes ≡ s.stripes
+  stripes-same : (s : StripeValue) → (card_made owner k f s).stripes ≡ s.stripes
   stripes-same s = by k
     where
-      by : (kind : InodeKind) → (card_made kind f s).stripes ≡ s.stripes
+      by : (kind : InodeKind) → (card_made owner kind f s).stripes ≡ s.stripes
       by (RegularFile size filled verifier) = refl
       by (DirectoryKind parent subdirectories) = refl
 
-  largest-same : (s : StripeValue) → (card_made k f s).largest ≡ s.largest
+  largest-same : (s : StripeValue) → (card_made owner k f s).largest ≡ s.largest
   largest-same s = by k
     where
-      by : (kind : InodeKind) → (card_made kind f s).largest ≡ s.largest
+      by : (kind : InodeKind) → (card_made owner kind f s).largest ≡ s.largest
       by (RegularFile size filled verifier) = refl
       by (DirectoryKind parent subdirectories) = refl
 
   -- where there was no card, there is one without a touch; the others stay
   card-found : (s : StripeValue) → get s.cards f ≡ None → (q : ℕ)
-      → get (card_made k f s).cards q ≡ (if q == f then Some (card_of_kind k) else get s.cards q)
+      → get (card_made owner k f s).cards q ≡ (if q == f then Some (card_of_kind k) else get s.cards q)
   card-found s none q = by k
     where
-      by : (kind : InodeKind) → get (card_made kind f s).cards q ≡ (if q == f then Some (card_of_kind kind) else get s.cards q)
+      by : (kind : InodeKind) → get (card_made owner kind f s).cards q ≡ (if q == f then Some (card_of_kind kind) else get s.cards q)
       by (RegularFile size filled verifier) =
-          get-insert_at s.cards f (OfFile size (touch_of (get s.cards f))) q
-          ∙ ap (λ o. if q == f then Some (OfFile size (touch_of o)) else get s.cards q) none
+          get-insert_at s.cards f (OfFile size (touch_of (get s.cards f)) owner) q
+          ∙ ap (λ o. if q == f then Some (OfFile size (touch_of o) owner) else get s.cards q) none
       by (DirectoryKind parent subdirectories) = get-insert_at s.cards f OfDirectory q
 
   shown-kind : (kind : InodeKind) → size_shown (card_of_kind kind) ≡ size_in kind
@@ -88,30 +91,42 @@ module _ (k : InodeKind) (f : ℕ) where
   untouched (DirectoryKind parent subdirectories) = refl
 
   shown-made : (s : StripeValue) → get s.cards f ≡ None
-      → option_map size_shown (get (card_made k f s).cards f) ≡ Some (size_in k)
+      → option_map size_shown (get (card_made owner k f s).cards f) ≡ Some (size_in k)
   shown-made s none =
       ap (option_map size_shown) (card-found s none f)
       ∙ ap (λ (b : Bool). option_map size_shown (if b then Some (card_of_kind k) else get s.cards f)) (itself f)
       ∙ ap Some (shown-kind k)
 
+  -- the owner of a file
+  owner-kind : (a : Attributes) → ownership_of a ≡ owner → (kind : InodeKind) → owner_shown (card_of_kind kind) ≡ owner_by a kind
+  owner-kind a is (RegularFile size filled verifier) = ap Some (sym is)
+  owner-kind a is (DirectoryKind parent subdirectories) = refl
+
+  owner-made : (a : Attributes) → ownership_of a ≡ owner → (s : StripeValue) → get s.cards f ≡ None
+      → option_map owner_shown (get (card_made owner k f s).cards f) ≡ Some (owner_by a k)
+  owner-made a is s none =
+      ap (option_map owner_shown) (card-found s none f)
+      ∙ ap (λ (b : Bool). option_map owner_shown (if b then Some (card_of_kind k) else get s.cards f)) (itself f)
+      ∙ ap Some (owner-kind a is k)
+
   shown-other : (s : StripeValue) → get s.cards f ≡ None → (q : ℕ) → (q == f) ≡ false
-      → get (card_made k f s).cards q ≡ get s.cards q
+      → get (card_made owner k f s).cards q ≡ get s.cards q
   shown-other s none q ne = card-found s none q ∙ ap (λ (b : Bool). if b then Some (card_of_kind k) else get s.cards q) ne
 
   -- no stripe has a card of a fileid
   abbrev pub HaveNoCard : List StripeValue → Type 0
   HaveNoCard stripes = (i : ℕ) → i < length stripes → get (stripe_at stripes i).cards f ≡ None
 
-  pub touch-none : (stripes : List StripeValue) → HaveNoCard stripes → file_touch (map (card_made k f) stripes) f ≡ None
+  pub touch-none : (stripes : List StripeValue) → HaveNoCard stripes → file_touch (map (card_made owner k f) stripes) f ≡ None
   touch-none [] none = refl
   touch-none (s ∷ stripes) none =
-      let here : touch_of (get (card_made k f s).cards f) ≡ None =
+      let here : touch_of (get (card_made owner k f s).cards f) ≡ None =
       ap touch_of (card-found s (none 0 (omega arith)) f)
       ∙ ap (λ (b : Bool). touch_of (if b then Some (card_of_kind k) else get s.cards f)) (itself f) ∙ untouched k in
       λ j. later (here j) (touch-none stripes (λ i less. none (suc i) (omega arith)) j)
 
   pub touch-other : (stripes : List StripeValue) → HaveNoCard stripes → (q : ℕ) → (q == f) ≡ false
-      → file_touch (map (card_made k f) stripes) q ≡ file_touch stripes q
+      → file_touch (map (card_made owner k f) stripes) q ≡ file_touch stripes q
   touch-other [] none q ne = refl
   touch-other (s ∷ stripes) none q ne = λ j. later
       (touch_of (shown-other s (none 0 (omega arith)) q ne j)) (touch-other stripes (λ i less. none (suc i) (omega arith)) q ne j)
@@ -138,6 +153,12 @@ module _ (stripes : List StripeValue) (f : ℕ) (none : (b : ℕ) → is_filled 
 abbrev pub made_in : Making → VolumeContents → VolumeContents
 made_in m p = logical_lens.put (node_made m (logical_lens.of p)) p
 
+-- the owner of a directory that has more subdirectories
+owner-kept : (more : ℕ) (a b : Attributes) → ownership_of b ≡ ownership_of a → (k : InodeKind)
+    → owner_by b (with_subdirectories more k) ≡ owner_by a k
+owner-kept more a b is (RegularFile size filled verifier) = ap Some is
+owner-kept more a b is (DirectoryKind parent subdirectories) = refl
+
 filled-kept : (more : ℕ) (k : InodeKind) → filled_blocks (with_subdirectories more k) ≡ filled_blocks k
 filled-kept more (RegularFile size filled verifier) = refl
 filled-kept more (DirectoryKind parent subdirectories) = refl
@@ -156,6 +177,10 @@ module _ (p : VolumeContents) (m : Making) (well : WellFormed p) (may : MayBeMad
 
   abbrev k : InodeKind
   k = m.made.kind
+
+  -- who owns it
+  abbrev owner : Ownership
+  owner = ownership_of m.made.attributes
 
   abbrev old : InodesValue
   old = p.logical.inodes
@@ -206,7 +231,7 @@ module _ (p : VolumeContents) (m : Making) (well : WellFormed p) (may : MayBeMad
   nothing = next-absent old well.logical.inodes
 
   -- no stripe has a card of the new fileid yet, nor a block
-  pub no-card : HaveNoCard k f p.stripes
+  pub no-card : HaveNoCard owner k f p.stripes
   no-card i less = by (get (stripe_at p.stripes i).cards f) ((well.stripes i less).cards f ∙ ap (option_map shown_size) nothing)
     where
       by : (o : Option Card) → option_map size_shown o ≡ None → o ≡ None
@@ -236,16 +261,29 @@ module _ (p : VolumeContents) (m : Making) (well : WellFormed p) (may : MayBeMad
 
   shown-after : (s : StripeValue) → get s.cards f ≡ None
       → ((q : ℕ) → option_map size_shown (get s.cards q) ≡ option_map shown_size (inode_of old q))
-      → (q : ℕ) → option_map size_shown (get (card_made k f s).cards q) ≡ option_map shown_size (inode_of new q)
+      → (q : ℕ) → option_map size_shown (get (card_made owner k f s).cards q) ≡ option_map shown_size (inode_of new q)
   shown-after s none fits = by-fileid
-      (λ q. option_map size_shown (get (card_made k f s).cards q) ≡ option_map shown_size (inode_of new q))
-      (ap (option_map size_shown) (shown-other k f s none m.directory (apart))
+      (λ q. option_map size_shown (get (card_made owner k f s).cards q) ≡ option_map shown_size (inode_of new q))
+      (ap (option_map size_shown) (shown-other owner k f s none m.directory (apart))
       ∙ fits m.directory ∙ ap (option_map shown_size) may.there
       ∙ ap Some (sym (names.size-kept (directories_in k) m.inode.kind))
       ∙ sym (ap (option_map shown_size) (at-directory)))
-      (shown-made k f s none ∙ sym (ap (option_map shown_size) (at-made)))
-      (λ q ne older. ap (option_map size_shown) (shown-other k f s none q older) ∙ fits q
+      (shown-made owner k f s none ∙ sym (ap (option_map shown_size) (at-made)))
+      (λ q ne older. ap (option_map size_shown) (shown-other owner k f s none q older) ∙ fits q
       ∙ sym (ap (option_map shown_size) (at-other q ne older)))
+
+  owners-after : (s : StripeValue) → get s.cards f ≡ None
+      → ((q : ℕ) → option_map owner_shown (get s.cards q) ≡ option_map owner_in (inode_of old q))
+      → (q : ℕ) → option_map owner_shown (get (card_made owner k f s).cards q) ≡ option_map owner_in (inode_of new q)
+  owners-after s none fits = by-fileid
+      (λ q. option_map owner_shown (get (card_made owner k f s).cards q) ≡ option_map owner_in (inode_of new q))
+      (ap (option_map owner_shown) (shown-other owner k f s none m.directory (apart))
+      ∙ fits m.directory ∙ ap (option_map owner_in) may.there
+      ∙ ap Some (sym (owner-kept (directories_in k) m.inode.attributes (directory_inode m).attributes refl m.inode.kind))
+      ∙ sym (ap (option_map owner_in) (at-directory)))
+      (owner-made owner k f m.made.attributes refl s none ∙ sym (ap (option_map owner_in) (at-made)))
+      (λ q ne older. ap (option_map owner_shown) (shown-other owner k f s none q older) ∙ fits q
+      ∙ sym (ap (option_map owner_in) (at-other q ne older)))
 
   -- a block's file was there before
   older-block : (q size : ℕ) → size_of (inode_of old q) ≡ Some size → size_of (inode_of new q) ≡ Some size
@@ -257,15 +295,16 @@ module _ (p : VolumeContents) (m : Making) (well : WellFormed p) (may : MayBeMad
           absurd cc
       by false e = size-same q e ∙ says
 
-  fits-after : (i : ℕ) (s : StripeValue) → get s.cards f ≡ None → StripeFits p.logical i s → StripeFits after.logical i (card_made k f s)
+  fits-after : (i : ℕ) (s : StripeValue) → get s.cards f ≡ None → StripeFits p.logical i s → StripeFits after.logical i (card_made owner k f s)
   fits-after i s none fits = record {
-    verifier = verifier-same k f s ∙ fits.verifier;
-    stripes = stripes-same k f s ∙ fits.stripes;
-    largest = largest-same k f s ∙ fits.largest;
+    verifier = verifier-same owner k f s ∙ fits.verifier;
+    stripes = stripes-same owner k f s ∙ fits.stripes;
+    largest = largest-same owner k f s ∙ fits.largest;
     cards = shown-after s none fits.cards;
-    long = record { long = λ place b e. fits.long.long place b (ap (λ x. get x place) (sym (blocks-same k f s)) ∙ e) };
+    owners = owners-after s none fits.owners;
+    long = record { long = λ place b e. fits.long.long place b (ap (λ x. get x place) (sym (blocks-same owner k f s)) ∙ e) };
     blocks = λ fileid block b e.
-        let was = fits.blocks fileid block b (ap (λ x. get x (fileid, block)) (sym (blocks-same k f s)) ∙ e) in
+        let was = fits.blocks fileid block b (ap (λ x. get x (fileid, block)) (sym (blocks-same owner k f s)) ∙ e) in
         (was.0, older-block fileid was.0 was.1, was.2);
   }
 
@@ -287,7 +326,7 @@ module _ (p : VolumeContents) (m : Making) (well : WellFormed p) (may : MayBeMad
       well.filled q x (sym (at-other q ne older) ∙ e) ∙ sym (ap sets.len (stay q)))
     where
       stay : (q : ℕ) → file_filled after.stripes q ≡ file_filled p.stripes q
-      stay q = blocks.filled-stays (card_made k f) (blocks-same k f) p.stripes q
+      stay q = blocks.filled-stays (card_made owner k f) (blocks-same owner k f) p.stripes q
 
   created-lawful : (inode_of (inode_created m.made old) m.directory ≡ Some m.inode)
   created-lawful = inode-created-other old m.made m.directory (apart) ∙ may.there
@@ -308,18 +347,18 @@ module _ (p : VolumeContents) (m : Making) (well : WellFormed p) (may : MayBeMad
       sizes = λ q. size-after q (q == f) refl;
       named = named-made;
     };
-    as_many = length-map p.stripes (card_made k f) ∙ well.as_many;
+    as_many = length-map p.stripes (card_made owner k f) ∙ well.as_many;
     stripes = λ i less.
-        let long = length-map p.stripes (card_made k f) in
+        let long = length-map p.stripes (card_made owner k f) in
         let on : i < length p.stripes = omega (arith, less, long) in
-        subst (StripeFits after.logical i) (sym (blocks.stripe-mapped (card_made k f) p.stripes i on))
+        subst (StripeFits after.logical i) (sym (blocks.stripe-mapped (card_made owner k f) p.stripes i on))
         (fits-after i (stripe_at p.stripes i) (no-card i on) (well.stripes i on));
     used =
         let same = used-set-same (inode_created m.made old) m.directory m.inode (directory_inode m) (created-is old m.made well.logical.inodes)
         created-lawful (filled-kept (directories_in k) m.inode.kind) in
         let was = well.used in
         let none = empty in
-        let blocks = blocks.total-mapped (card_made k f) (λ (s : StripeValue). len s.blocks) (λ s. ap (λ x. len x) (blocks-same k f s)) p.stripes in
+        let blocks = blocks.total-mapped (card_made owner k f) (λ (s : StripeValue). len s.blocks) (λ s. ap (λ x. len x) (blocks-same owner k f s)) p.stripes in
         omega (arith, same, was, none, blocks);
     filled = filled-after;
     sixteen = well.sixteen;
@@ -361,7 +400,7 @@ module _ (p : VolumeContents) (m : Making) (well : WellFormed p) (may : MayBeMad
     partition = λ n.
         let e = weigh n in
         let o = s.partition n in
-        let stripes = blocks.total-mapped (card_made k f) (times_in_stripe n) (λ t. ap (λ x. times_in_stripe n (record t { blocks = x })) (blocks-same k f t))
+        let stripes = blocks.total-mapped (card_made owner k f) (times_in_stripe n) (λ t. ap (λ x. times_in_stripe n (record t { blocks = x })) (blocks-same owner k f t))
         p.stripes in
         omega (arith, e, o, stripes);
   }

@@ -10,6 +10,8 @@ use Rattle.std.specs.FinMap.{get, insert, nat_cmp-IsAntisymmetric}
 use Rattle.nfs_model.specs.Server.{Node, File, Directory, block_size}
 use Rattle.nfs_model.specs.Names.{with_name}
 use Rattle.nfs_model.specs.volume.Directories.{DirectoryValue, added}
+use Rattle.nfs_model.specs.Types.{Ownership}
+use Rattle.nfs_model.specs.Serial.Rights.{ownership_of}
 use Rattle.nfs_model.specs.volume.Inodes.{InodeKind, RegularFile, DirectoryKind, Inode, InodesValue, inode_of, inode_created}
 use Rattle.nfs_model.specs.volume.Stripes.{Block, StripeValue, byte_of}
 use Rattle.nfs_model.specs.volume.lemmas.Inodes.{next-set}
@@ -51,6 +53,9 @@ module _ (p : VolumeContents) (m : Making) (well : WellFormed p) (may : MayBeMad
   abbrev k : InodeKind
   k = m.made.kind
 
+  abbrev owner : Ownership
+  owner = ownership_of m.made.attributes
+
   abbrev old : InodesValue
   old = p.logical.inodes
 
@@ -62,7 +67,7 @@ module _ (p : VolumeContents) (m : Making) (well : WellFormed p) (may : MayBeMad
 
   absent-blocks : (b : ℕ) → get (home_stripe after.stripes f b).blocks (f, b) ≡ None
   absent-blocks b =
-      ap (λ x. get x (f, b)) (blocks.homes-stay (card_made k f) (blocks-same k f) p.stripes f b)
+      ap (λ x. get x (f, b)) (blocks.homes-stay (card_made owner k f) (blocks-same owner k f) p.stripes f b)
       ∙ by (get (home_stripe p.stripes f b).blocks (f, b)) (no-block p m well may b)
     where
       by : (o : Option Block) → is_some o ≡ false → o ≡ None
@@ -78,8 +83,8 @@ module _ (p : VolumeContents) (m : Making) (well : WellFormed p) (may : MayBeMad
       by (RegularFile size filled verifier) is = λ j. File (record {
         attributes = m.made.attributes;
         bytes = bytes-none after.stripes f absent-blocks size j;
-        filled = (blocks.filled-stays (card_made k f) (blocks-same k f) p.stripes f ∙ none-filled p.stripes f (no-block p m well may)) j;
-        touch = touch-none k f p.stripes (no-card p m well may) j;
+        filled = (blocks.filled-stays (card_made owner k f) (blocks-same owner k f) p.stripes f ∙ none-filled p.stripes f (no-block p m well may)) j;
+        touch = touch-none owner k f p.stripes (no-card p m well may) j;
         verifier = verifier;
       })
       by (DirectoryKind parent subdirectories) is =
@@ -129,9 +134,9 @@ module _ (p : VolumeContents) (m : Making) (well : WellFormed p) (may : MayBeMad
           ≡ node_by p.stripes (get p.logical.directories q) q inode.attributes kind
       by (RegularFile size filled verifier) = λ j. File (record {
         attributes = inode.attributes;
-        bytes = blocks.bytes-stay (card_made k f) (blocks-same k f) p.stripes q size j;
-        filled = blocks.filled-stays (card_made k f) (blocks-same k f) p.stripes q j;
-        touch = touch-other k f p.stripes (no-card p m well may) q older j;
+        bytes = blocks.bytes-stay (card_made owner k f) (blocks-same owner k f) p.stripes q size j;
+        filled = blocks.filled-stays (card_made owner k f) (blocks-same owner k f) p.stripes q j;
+        touch = touch-other owner k f p.stripes (no-card p m well may) q older j;
         verifier = verifier;
       })
       by (DirectoryKind parent subdirectories) = λ j. node_by p.stripes (found j) q inode.attributes (DirectoryKind parent subdirectories)

@@ -8,6 +8,9 @@ use Rattle.std.specs.Option.{option_map}
 use Rattle.std.specs.FinMap.{get, len}
 use Rattle.std.specs.FinSet as sets
 use Rattle.nfs_model.specs.Types.{Moment}
+use Rattle.nfs_model.specs.Server.{Attributes}
+use Rattle.nfs_model.specs.Shown.{effective_attributes}
+use Rattle.nfs_model.specs.Serial.Rights.{ownership_of}
 use Rattle.nfs_model.specs.Parts.{Hand}
 use Rattle.depot_rule.specs.Sums.{total}
 use Rattle.nfs_model.specs.volume.Directories.{DirectoryValue, added, removed}
@@ -17,12 +20,12 @@ use Rattle.nfs_model.specs.volume.lemmas.Inodes.{len-set, set-is, next-set, used
 use Rattle.filer_state.specs.state.Contents.{VolumeContents}
 use Rattle.filer_state.specs.state.Tree.{stripe_at, file_filled, file_touch}
 use Rattle.filer_state.specs.state.Names.{DirectoryMap, size_in, size_of, AreNamed}
-use Rattle.filer_state.specs.state.WellFormed.{StripeFits, WellFormed}
+use Rattle.filer_state.specs.state.WellFormed.{StripeFits, WellFormed, owner_by, owner_in}
 use Rattle.filer_state.specs.state.Partition.{times_in_stripe, times_in_hand}
 use Rattle.filer_state.specs.state.Sound.{IsSound}
-use Rattle.filer_state.specs.state.Changes.{touches_taken}
+use Rattle.filer_state.specs.state.Changes.{attributes_now, touches_taken}
 use Rattle.filer_state.specs.laws.lemmas.SameBlocks as blocks
-use Rattle.filer_state.specs.attributes.lemmas.Kept.{shown-stays}
+use Rattle.filer_state.specs.attributes.lemmas.Kept.{shown-stays, owner-stays}
 use Rattle.filer_state.specs.nodes.Making.{directories_in, with_subdirectories}
 use Rattle.filer_state.specs.nodes.Dropping.{without_subdirectories}
 use Rattle.filer_state.specs.nodes.Moving.{Naming, dated_inode, inodes_untied, entries_untied, with_parent, node_hung, inodes_hung, entries_hung}
@@ -40,9 +43,10 @@ shown_size inode = size_in inode.kind
 abbrev filled_of : Inode → ℕ
 filled_of inode = filled_blocks inode.kind
 
--- the same inodes but for attributes and places in the tree
+-- the same inodes but for times and places in the tree
 pub record SameFiles (new old : InodesValue) : Type 0 where
   pub sizes : (q : ℕ) → option_map shown_size (inode_of new q) ≡ option_map shown_size (inode_of old q)
+  pub owners : (q : ℕ) → option_map owner_in (inode_of new q) ≡ option_map owner_in (inode_of old q)
   pub blocks : (q : ℕ) → option_map filled_of (inode_of new q) ≡ option_map filled_of (inode_of old q)
   pub used : new.used ≡ old.used
   pub next : new.next ≡ old.next
@@ -52,6 +56,7 @@ pub record SameFiles (new old : InodesValue) : Type 0 where
 same-then : (a b c : InodesValue) → SameFiles c b → SameFiles b a → SameFiles c a
 same-then a b c two one = record {
   sizes = λ q. two.sizes q ∙ one.sizes q;
+  owners = λ q. two.owners q ∙ one.owners q;
   blocks = λ q. two.blocks q ∙ one.blocks q;
   used = two.used ∙ one.used;
   next = two.next ∙ one.next;
@@ -61,9 +66,11 @@ same-then a b c two one = record {
 
 -- an inode set of a file of the same size and blocks, or of a directory
 same-set : (v : InodesValue) (fileid : ℕ) (old inode : Inode) → IsInodes v → inode_of v fileid ≡ Some old
-    → size_in inode.kind ≡ size_in old.kind → filled_blocks inode.kind ≡ filled_blocks old.kind → SameFiles (inode_set fileid inode v) v
-same-set v fileid old inode is there size filled = record {
+    → size_in inode.kind ≡ size_in old.kind → owner_in inode ≡ owner_in old → filled_blocks inode.kind ≡ filled_blocks old.kind
+    → SameFiles (inode_set fileid inode v) v
+same-set v fileid old inode is there size owner filled = record {
   sizes = λ q. by shown_size size q (q == fileid) refl;
+  owners = λ q. by owner_in owner q (q == fileid) refl;
   blocks = λ q. by filled_of filled q (q == fileid) refl;
   used = used-set-same v fileid old inode is there filled;
   next = next-set v fileid inode;
@@ -108,6 +115,7 @@ module _ (p : VolumeContents) (inodes : InodesValue) (directories : DirectoryMap
     stripes = fits.stripes;
     largest = fits.largest;
     cards = λ q. shown-stays f s q ∙ fits.cards q ∙ sym (same.sizes q);
+    owners = λ q. owner-stays f s q ∙ fits.owners q ∙ sym (same.owners q);
     long = record { long = fits.long.long };
     blocks = λ q block b e. let was = fits.blocks q block b e in (was.0, size-same q ∙ was.1, was.2);
   }
@@ -171,6 +179,26 @@ size-with : (parent : ℕ) (k : InodeKind) → size_in (with_parent parent k) �
 size-with parent (RegularFile size filled verifier) = refl
 size-with parent (DirectoryKind old subdirectories) = refl
 
+-- the owner stays: where a node settles and has another parent, and of a directory with more or fewer subdirectories
+owner-effective : (touch : Option Moment) (a : Attributes) → ownership_of (effective_attributes touch a) ≡ ownership_of a
+owner-effective None a = refl
+owner-effective (Some moment) a = refl
+
+owner-with : (parent : ℕ) (touch : Option Moment) (moment : Moment) (a : Attributes) (k : InodeKind)
+    → owner_by (record (attributes_now touch a k) { ctime = moment }) (with_parent parent k) ≡ owner_by a k
+owner-with parent touch moment a (RegularFile size filled verifier) = ap Some (owner-effective touch a)
+owner-with parent touch moment a (DirectoryKind old subdirectories) = refl
+
+owner-more : (more : ℕ) (a b : Attributes) → ownership_of b ≡ ownership_of a → (k : InodeKind)
+    → owner_by b (with_subdirectories more k) ≡ owner_by a k
+owner-more more a b is (RegularFile size filled verifier) = ap Some is
+owner-more more a b is (DirectoryKind parent subdirectories) = refl
+
+owner-less : (fewer : ℕ) (a b : Attributes) → ownership_of b ≡ ownership_of a → (k : InodeKind)
+    → owner_by b (without_subdirectories fewer k) ≡ owner_by a k
+owner-less fewer a b is (RegularFile size filled verifier) = ap Some is
+owner-less fewer a b is (DirectoryKind parent subdirectories) = refl
+
 filled-with : (parent : ℕ) (k : InodeKind) → filled_blocks (with_parent parent k) ≡ filled_blocks k
 filled-with parent (RegularFile size filled verifier) = refl
 filled-with parent (DirectoryKind old subdirectories) = refl
@@ -192,21 +220,27 @@ module _ (p : VolumeContents) (from to : Naming) (well : WellFormed p)
   abbrev taken : InodesValue
   taken = inodes_untied from p.logical.inodes
 
+  abbrev untied : Inode
+  untied = dated_inode from.moment (without_subdirectories (directories_in from.node.kind) from.inode.kind) from.inode
+
   same-taken : SameFiles taken p.logical.inodes
-  same-taken = same-set p.logical.inodes from.directory from.inode _ well.logical.inodes stands.there
-      (unnamed.size-kept (directories_in from.node.kind) from.inode.kind) (filled-less (directories_in from.node.kind) from.inode.kind)
+  same-taken = same-set p.logical.inodes from.directory from.inode untied well.logical.inodes stands.there
+      (unnamed.size-kept (directories_in from.node.kind) from.inode.kind)
+      (owner-less (directories_in from.node.kind) from.inode.attributes untied.attributes refl from.inode.kind) (filled-less (directories_in from.node.kind) from.inode.kind)
 
   abbrev dated : Inode
   dated = dated_inode to.moment (with_subdirectories (directories_in to.node.kind) to.inode.kind) to.inode
 
   same-dated : SameFiles (inode_set to.directory dated taken) taken
   same-dated = same-set taken to.directory to.inode dated (same-taken.lawful well.logical.inodes) may.there
-      (made.size-kept (directories_in to.node.kind) to.inode.kind) (filled-more (directories_in to.node.kind) to.inode.kind)
+      (made.size-kept (directories_in to.node.kind) to.inode.kind)
+      (owner-more (directories_in to.node.kind) to.inode.attributes dated.attributes refl to.inode.kind) (filled-more (directories_in to.node.kind) to.inode.kind)
 
   same-hung : SameFiles (inodes_hung to touch taken) (inode_set to.directory dated taken)
   same-hung = same-set (inode_set to.directory dated taken) to.fileid to.node (node_hung to touch)
       (same-dated.lawful (same-taken.lawful well.logical.inodes))
-      (still taken (entries_untied from p.logical.directories) to touch may) (size-with to.directory to.node.kind) (filled-with to.directory to.node.kind)
+      (still taken (entries_untied from p.logical.directories) to touch may) (size-with to.directory to.node.kind)
+      (owner-with to.directory touch to.moment to.node.attributes to.node.kind) (filled-with to.directory to.node.kind)
 
   same-all : SameFiles (inodes_hung to touch taken) p.logical.inodes
   same-all = same-then p.logical.inodes taken (inodes_hung to touch taken)

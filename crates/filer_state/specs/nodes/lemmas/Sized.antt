@@ -14,6 +14,8 @@ use Rattle.std.specs.FinSet.{contains, from_list, contains-union}
 use Rattle.nfs_model.specs.Server.{block_size}
 use Rattle.nfs_model.specs.Parts.{Hand, one_if, times_listed}
 use Rattle.depot_rule.specs.Sums.{total}
+use Rattle.nfs_model.specs.Types.{Ownership}
+use Rattle.nfs_model.specs.Serial.Rights.{ownership_of}
 use Rattle.nfs_model.specs.volume.Inodes.{RegularFile, Inode, InodesValue, filled_blocks, inode_of, inode_set}
 use Rattle.nfs_model.specs.volume.Stripes.{Card, OfFile, OfDirectory, Block, StripeValue, byte_cut, block_mapped, card_settled, touch_taken}
 use Rattle.nfs_model.specs.volume.Stripes.{touch_of, stripe_of, is_filled, numbers_freed}
@@ -22,7 +24,7 @@ use Rattle.nfs_model.specs.volume.lemmas.Numbered.{get-insert_at, get-changed_at
 use Rattle.filer_state.specs.state.Contents.{VolumeContents}
 use Rattle.filer_state.specs.state.Tree.{stripe_at, home_stripe, file_filled, most_file_blocks, ranges_used}
 use Rattle.filer_state.specs.state.Names.{size_in, size_of, parent_directory, subdirectories_of}
-use Rattle.filer_state.specs.state.WellFormed.{StripeFits, BlockFits, WellFormed, IsLargest, size_shown}
+use Rattle.filer_state.specs.state.WellFormed.{StripeFits, BlockFits, WellFormed, IsLargest, size_shown, owner_shown, owner_by, owner_in}
 use Rattle.filer_state.specs.state.Partition.{times_in_stripe, times_in_hand}
 use Rattle.filer_state.specs.state.Sound.{IsSound}
 use Rattle.filer_state.specs.state.Lenses.{logical_lens}
@@ -36,8 +38,8 @@ use Rattle.filer_state.specs.nodes.lemmas.Cutting.{cut-other, cut-here, cut-long
 
 -- ---- sums over stripes
 
-module _ (f size : ℕ) where
-  freed-len : (stripes : List StripeValue) → total (λ (s : StripeValue). len s.blocks) (map (stripe_sized f size) stripes) + length (all_freed f size stripes)
+module _ (f size : ℕ) (owner : Ownership) where
+  freed-len : (stripes : List StripeValue) → total (λ (s : StripeValue). len s.blocks) (map (stripe_sized f size owner) stripes) + length (all_freed f size stripes)
       ≡ total (λ (s : StripeValue). len s.blocks) stripes
   freed-len [] = refl
   freed-len (s ∷ stripes) =
@@ -51,7 +53,7 @@ module _ (f size : ℕ) where
   times-append n (x ∷ xs) ys = let others = times-append n xs ys in omega (arith, others)
 
   pub freed-times : (n : ℕ) (stripes : List StripeValue)
-      → total (times_in_stripe n) (map (stripe_sized f size) stripes) + times_listed n (all_freed f size stripes) ≡ total (times_in_stripe n) stripes
+      → total (times_in_stripe n) (map (stripe_sized f size owner) stripes) + times_listed n (all_freed f size stripes) ≡ total (times_in_stripe n) stripes
   freed-times n [] = refl
   freed-times n (s ∷ stripes) =
       let here = cut-times f size n s in
@@ -59,7 +61,7 @@ module _ (f size : ℕ) where
       let both = times-append n (numbers_freed f size s) (all_freed f size stripes) in
       omega (arith, here, others, both)
 
-  freed-of : (stripes : List StripeValue) → total (blocks_in f) (map (stripe_sized f size) stripes) + length (all_freed f size stripes)
+  freed-of : (stripes : List StripeValue) → total (blocks_in f) (map (stripe_sized f size owner) stripes) + length (all_freed f size stripes)
       ≡ total (blocks_in f) stripes
   freed-of [] = refl
   freed-of (s ∷ stripes) =
@@ -71,14 +73,14 @@ module _ (f size : ℕ) where
   -- ---- cards
 
   pub card-sized : (s : StripeValue) (q : ℕ)
-      → get (stripe_sized f size s).cards q ≡ (if q == f then Some (OfFile size None) else get s.cards q)
+      → get (stripe_sized f size owner s).cards q ≡ (if q == f then Some (OfFile size None owner) else get s.cards q)
   card-sized s q =
-      get-insert_at (touch_taken f s).cards f (OfFile size (touch_of (get (touch_taken f s).cards f))) q
+      get-insert_at (touch_taken f s).cards f (OfFile size (touch_of (get (touch_taken f s).cards f)) owner) q
       ∙ by (q == f) refl
     where
       settled : (o : Option Card) → touch_of (option_map card_settled o) ≡ None
       settled None = refl
-      settled (Some (OfFile n touch)) = refl
+      settled (Some (OfFile n touch old)) = refl
       settled (Some OfDirectory) = refl
 
       untouched : touch_of (get (touch_taken f s).cards f) ≡ None
@@ -88,9 +90,9 @@ module _ (f size : ℕ) where
           ∙ settled (get s.cards f)
 
       by : (b : Bool) → (q == f) ≡ b
-          → (if b then Some (OfFile size (touch_of (get (touch_taken f s).cards f))) else get (touch_taken f s).cards q)
-          ≡ (if b then Some (OfFile size None) else get s.cards q)
-      by true e = ap (λ t. Some (OfFile size t)) untouched
+          → (if b then Some (OfFile size (touch_of (get (touch_taken f s).cards f)) owner) else get (touch_taken f s).cards q)
+          ≡ (if b then Some (OfFile size None owner) else get s.cards q)
+      by true e = ap (λ t. Some (OfFile size t owner)) untouched
       by false e = get-changed_at card_settled f s.cards q ∙ ap (λ (b : Bool). if b then option_map card_settled (get s.cards f) else get s.cards q) e
 
 -- ---- the volume after it
@@ -115,6 +117,10 @@ module _ (p : VolumeContents) (m : Sizing) (well : WellFormed p) (there : get p.
     (small : m.size ≤ p.logical.largest) where
   abbrev f : ℕ
   f = m.fileid
+
+  -- who owns it then
+  abbrev owner : Ownership
+  owner = ownership_of m.attributes
 
   abbrev old : InodesValue
   old = p.logical.inodes
@@ -165,21 +171,31 @@ module _ (p : VolumeContents) (m : Sizing) (well : WellFormed p) (there : get p.
   -- ---- stripes
 
   shown-after : (s : StripeValue) → ((q : ℕ) → option_map size_shown (get s.cards q) ≡ option_map shown_size (inode_of old q))
-      → (q : ℕ) → option_map size_shown (get (stripe_sized f m.size s).cards q) ≡ option_map shown_size (inode_of new q)
-  shown-after s fits = by-fileid (λ q. option_map size_shown (get (stripe_sized f m.size s).cards q) ≡ option_map shown_size (inode_of new q))
-      (ap (option_map size_shown) (card-sized f m.size s f)
-      ∙ ap (λ (b : Bool). option_map size_shown (if b then Some (OfFile m.size None) else get s.cards f)) (itself f)
+      → (q : ℕ) → option_map size_shown (get (stripe_sized f m.size owner s).cards q) ≡ option_map shown_size (inode_of new q)
+  shown-after s fits = by-fileid (λ q. option_map size_shown (get (stripe_sized f m.size owner s).cards q) ≡ option_map shown_size (inode_of new q))
+      (ap (option_map size_shown) (card-sized f m.size owner s f)
+      ∙ ap (λ (b : Bool). option_map size_shown (if b then Some (OfFile m.size None owner) else get s.cards f)) (itself f)
       ∙ sym (ap (option_map shown_size) at-file ∙ ap (λ k. Some (size_in k)) kind-after))
-      (λ q ne. ap (option_map size_shown) (card-sized f m.size s q)
-      ∙ ap (λ (b : Bool). option_map size_shown (if b then Some (OfFile m.size None) else get s.cards q)) ne
+      (λ q ne. ap (option_map size_shown) (card-sized f m.size owner s q)
+      ∙ ap (λ (b : Bool). option_map size_shown (if b then Some (OfFile m.size None owner) else get s.cards q)) ne
       ∙ fits q ∙ sym (ap (option_map shown_size) (at-other q ne)))
+
+  owners-after : (s : StripeValue) → ((q : ℕ) → option_map owner_shown (get s.cards q) ≡ option_map owner_in (inode_of old q))
+      → (q : ℕ) → option_map owner_shown (get (stripe_sized f m.size owner s).cards q) ≡ option_map owner_in (inode_of new q)
+  owners-after s fits = by-fileid (λ q. option_map owner_shown (get (stripe_sized f m.size owner s).cards q) ≡ option_map owner_in (inode_of new q))
+      (ap (option_map owner_shown) (card-sized f m.size owner s f)
+      ∙ ap (λ (b : Bool). option_map owner_shown (if b then Some (OfFile m.size None owner) else get s.cards f)) (itself f)
+      ∙ sym (ap (option_map owner_in) at-file ∙ ap (λ k. Some (owner_by m.attributes k)) kind-after))
+      (λ q ne. ap (option_map owner_shown) (card-sized f m.size owner s q)
+      ∙ ap (λ (b : Bool). option_map owner_shown (if b then Some (OfFile m.size None owner) else get s.cards q)) ne
+      ∙ fits q ∙ sym (ap (option_map owner_in) (at-other q ne)))
 
   abbrev HasBlockAfter : ℕ → ℕ → ℕ → Block → Type 0
   HasBlockAfter i q block b = (size : ℕ) × (size_of (inode_of new q) ≡ Some size) × BlockFits p.logical.stripes i q block size b
 
   -- a block of the file that is found after it
   block-here : (i : ℕ) (s : StripeValue) → StripeFits p.logical i s → (block : ℕ) (b : Block)
-      → get (stripe_sized f m.size s).blocks (f, block) ≡ Some b → HasBlockAfter i f block b × (length b.bytes ≡ block_size)
+      → get (stripe_sized f m.size owner s).blocks (f, block) ≡ Some b → HasBlockAfter i f block b × (length b.bytes ≡ block_size)
   block-here i s fits block b e = by (nat_lt (block_size * block) m.size) refl (get s.blocks (f, block)) refl (sym (cut-here f m.size s block) ∙ e)
     where
       by : (t : Bool) → nat_lt (block_size * block) m.size ≡ t → (o : Option Block) → get s.blocks (f, block) ≡ o
@@ -197,7 +213,7 @@ module _ (p : VolumeContents) (m : Sizing) (well : WellFormed p) (there : get p.
 
   -- a block of another file
   block-there : (i : ℕ) (s : StripeValue) → StripeFits p.logical i s → (q block : ℕ) (b : Block) → (q == f) ≡ false
-      → get (stripe_sized f m.size s).blocks (q, block) ≡ Some b → HasBlockAfter i q block b × (length b.bytes ≡ block_size)
+      → get (stripe_sized f m.size owner s).blocks (q, block) ≡ Some b → HasBlockAfter i q block b × (length b.bytes ≡ block_size)
   block-there i s fits q block b ne e =
       let was : get s.blocks (q, block) ≡ Some b = sym (cut-other f m.size s q block ne) ∙ e in
       let fitted = fits.blocks q block b was in (
@@ -206,24 +222,25 @@ module _ (p : VolumeContents) (m : Sizing) (well : WellFormed p) (there : get p.
       )
 
   block-after : (i : ℕ) (s : StripeValue) → StripeFits p.logical i s → (q block : ℕ) (b : Block)
-      → get (stripe_sized f m.size s).blocks (q, block) ≡ Some b → HasBlockAfter i q block b × (length b.bytes ≡ block_size)
-  block-after i s fits = by-fileid (λ q. (block : ℕ) (b : Block) → get (stripe_sized f m.size s).blocks (q, block) ≡ Some b
+      → get (stripe_sized f m.size owner s).blocks (q, block) ≡ Some b → HasBlockAfter i q block b × (length b.bytes ≡ block_size)
+  block-after i s fits = by-fileid (λ q. (block : ℕ) (b : Block) → get (stripe_sized f m.size owner s).blocks (q, block) ≡ Some b
       → HasBlockAfter i q block b × (length b.bytes ≡ block_size))
       (block-here i s fits)
       (λ q ne block b e. block-there i s fits q block b ne e)
 
-  fits-after : (i : ℕ) (s : StripeValue) → StripeFits p.logical i s → StripeFits after.logical i (stripe_sized f m.size s)
+  fits-after : (i : ℕ) (s : StripeValue) → StripeFits p.logical i s → StripeFits after.logical i (stripe_sized f m.size owner s)
   fits-after i s fits = record {
     verifier = fits.verifier;
     stripes = fits.stripes;
     largest = fits.largest;
     cards = shown-after s fits.cards;
+    owners = owners-after s fits.owners;
     long = record { long = λ place b e. (block-after i s fits place.0 place.1 b e).1 };
     blocks = λ q block b e. (block-after i s fits q block b e).0;
   }
 
-  on-stripe : (i : ℕ) → i < length p.stripes → stripe_at after.stripes i ≡ stripe_sized f m.size (stripe_at p.stripes i)
-  on-stripe i on = stripe-mapped (stripe_sized f m.size) p.stripes i on
+  on-stripe : (i : ℕ) → i < length p.stripes → stripe_at after.stripes i ≡ stripe_sized f m.size owner (stripe_at p.stripes i)
+  on-stripe i on = stripe-mapped (stripe_sized f m.size owner) p.stripes i on
 
   -- ---- filled blocks
 
@@ -231,7 +248,7 @@ module _ (p : VolumeContents) (m : Sizing) (well : WellFormed p) (there : get p.
   many = well.as_many
 
   many-after : length after.stripes ≡ length p.stripes
-  many-after = length-map p.stripes (stripe_sized f m.size)
+  many-after = length-map p.stripes (stripe_sized f m.size owner)
 
   some-stripes : 0 < length p.stripes
   some-stripes =
@@ -266,7 +283,7 @@ module _ (p : VolumeContents) (m : Sizing) (well : WellFormed p) (there : get p.
           → (stripe_of (length after.stripes) f block ≡ i) × (block < most_file_blocks)
       by None e g = absurd cc
       by (Some b) e g =
-          let found : get (stripe_sized f m.size (stripe_at p.stripes i)).blocks (f, block) ≡ Some b =
+          let found : get (stripe_sized f m.size owner (stripe_at p.stripes i)).blocks (f, block) ≡ Some b =
           ap (λ (s : StripeValue). get s.blocks (f, block)) (sym (on-stripe i on)) ∙ e in
           let fitted = (block-here i (stripe_at p.stripes i) (well.stripes i on) block b found).0 in
           let same : m.size ≡ fitted.0 = (let is = size-after in let says = fitted.1 in cc) in (
@@ -284,12 +301,12 @@ module _ (p : VolumeContents) (m : Sizing) (well : WellFormed p) (there : get p.
   file-filled : filled - fewer ≡ sets.len (file_filled after.stripes f)
   file-filled =
       let was = filled-before in
-      let left = freed-of f m.size p.stripes in
+      let left = freed-of f m.size owner p.stripes in
       let now = filled-now in
       omega (arith, was, left, now)
 
   pub fewer-filled : fewer ≤ filled
-  fewer-filled = let was = filled-before in let left = freed-of f m.size p.stripes in omega (arith, was, left)
+  fewer-filled = let was = filled-before in let left = freed-of f m.size owner p.stripes in omega (arith, was, left)
 
   -- another file's blocks are those that it had
   home-other : (q block : ℕ) → (q == f) ≡ false → is_filled (home_stripe after.stripes q block) q block ≡ is_filled (home_stripe p.stripes q block) q block
@@ -332,7 +349,7 @@ module _ (p : VolumeContents) (m : Sizing) (well : WellFormed p) (there : get p.
     used =
         let set = used-set old f m.inode next_inode well.logical.inodes there in
         let was = well.used in
-        let left = freed-len f m.size p.stripes in
+        let left = freed-len f m.size owner p.stripes in
         let file = ap filled_blocks is_file in
         let now = ap filled_blocks kind-after in
         let less = fewer-filled in
@@ -370,7 +387,7 @@ module _ (p : VolumeContents) (m : Sizing) (well : WellFormed p) (there : get p.
         let e = weigh n in
         let o = s.partition n in
         let most = one-at-most (nat_lt n (p.logical.dead.range_blocks * ranges_used p.ranges)) in
-        let left = freed-times f m.size n p.stripes in
+        let left = freed-times f m.size owner n p.stripes in
         let listed = listed-times n freed (omega (arith, o, most, left)) in
         let dead = or-counts (contains p.logical.dead.blocks n) (contains (from_list {R = nat_cmp} freed) n) (omega (arith, o, most, left, listed)) in
         let now : one_if (contains after.logical.dead.blocks n) ≡ one_if (contains p.logical.dead.blocks n) + times_listed n freed =

@@ -14,6 +14,7 @@ use Rattle.std.specs.FinMap.{get, insert, nat_cmp-IsAntisymmetric}
 use Rattle.std.specs.FinSet as sets
 use Rattle.std.specs.FinSet.{contains, retain, contains-retain}
 use Rattle.nfs_model.specs.Server.{Node, File, FileNode, block_size}
+use Rattle.nfs_model.specs.Serial.Rights.{ownership_of}
 use Rattle.nfs_model.specs.Serial.Setattr.{resized_bytes, with_node}
 use Rattle.nfs_model.specs.volume.Inodes.{InodeKind, RegularFile, DirectoryKind, Inode, InodesValue, inode_of}
 use Rattle.nfs_model.specs.volume.Stripes.{OfFile, Block, StripeValue, byte_of, byte_cut, block_mapped, touch_of, stripe_of, is_filled}
@@ -95,7 +96,7 @@ module _ (p : VolumeContents) (m : Sizing) (well : WellFormed p) (there : get p.
   many-after : length after.stripes ≡ length p.stripes
   many-after = length-mapped p.stripes
     where
-      length-mapped : (stripes : List StripeValue) → length (map (stripe_sized f m.size) stripes) ≡ length stripes
+      length-mapped : (stripes : List StripeValue) → length (map (stripe_sized f m.size (ownership_of m.attributes)) stripes) ≡ length stripes
       length-mapped [] = refl
       length-mapped (s ∷ stripes) = ap suc (length-mapped stripes)
 
@@ -105,10 +106,10 @@ module _ (p : VolumeContents) (m : Sizing) (well : WellFormed p) (there : get p.
       ⊎_elim (λ (e : p.logical.stripes ≡ 8). omega (arith, e, as_many)) (λ (e : p.logical.stripes ≡ 16). omega (arith, e, as_many)) well.striped
 
   -- the stripe of a block
-  home-after : (q block : ℕ) → home_stripe after.stripes q block ≡ stripe_sized f m.size (home_stripe p.stripes q block)
+  home-after : (q block : ℕ) → home_stripe after.stripes q block ≡ stripe_sized f m.size (ownership_of m.attributes) (home_stripe p.stripes q block)
   home-after q block =
       ap (λ (n : ℕ). stripe_at after.stripes (stripe_of n q block)) many-after
-      ∙ stripe-mapped (stripe_sized f m.size) p.stripes (stripe_of (length p.stripes) q block) (let some = some-stripes in omega (arith, some))
+      ∙ stripe-mapped (stripe_sized f m.size (ownership_of m.attributes)) p.stripes (stripe_of (length p.stripes) q block) (let some = some-stripes in omega (arith, some))
 
   -- ---- bytes
 
@@ -176,16 +177,16 @@ module _ (p : VolumeContents) (m : Sizing) (well : WellFormed p) (there : get p.
 
   -- ---- touches
 
-  touch-gone : (stripes : List StripeValue) → file_touch (map (stripe_sized f m.size) stripes) f ≡ None
+  touch-gone : (stripes : List StripeValue) → file_touch (map (stripe_sized f m.size (ownership_of m.attributes)) stripes) f ≡ None
   touch-gone [] = refl
   touch-gone (s ∷ stripes) = λ j. later
-      ((ap touch_of (card-sized f m.size s f) ∙ ap (λ (b : Bool). touch_of (if b then Some (OfFile m.size None) else get s.cards f)) (itself f)) j)
+      ((ap touch_of (card-sized f m.size (ownership_of m.attributes) s f) ∙ ap (λ (b : Bool). touch_of (if b then Some (OfFile m.size None (ownership_of m.attributes)) else get s.cards f)) (itself f)) j)
       (touch-gone stripes j)
 
-  touch-other : (stripes : List StripeValue) (q : ℕ) → (q == f) ≡ false → file_touch (map (stripe_sized f m.size) stripes) q ≡ file_touch stripes q
+  touch-other : (stripes : List StripeValue) (q : ℕ) → (q == f) ≡ false → file_touch (map (stripe_sized f m.size (ownership_of m.attributes)) stripes) q ≡ file_touch stripes q
   touch-other [] q ne = refl
   touch-other (s ∷ stripes) q ne = λ j. later
-      ((ap touch_of (card-sized f m.size s q) ∙ ap (λ (b : Bool). touch_of (if b then Some (OfFile m.size None) else get s.cards q)) ne) j)
+      ((ap touch_of (card-sized f m.size (ownership_of m.attributes) s q) ∙ ap (λ (b : Bool). touch_of (if b then Some (OfFile m.size None (ownership_of m.attributes)) else get s.cards q)) ne) j)
       (touch-other stripes q ne j)
 
   -- ---- nodes

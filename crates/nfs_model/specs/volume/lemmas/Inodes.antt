@@ -11,7 +11,7 @@ use Rattle.std.specs.FinMap.{get-from_sorted, get-entries, entries-insert, entri
 use Rattle.std.specs.FinMap.{len-insert, len-remove}
 use Rattle.std.specs.FinMap.Entries.{by_order}
 use Rattle.std.proofs.lemmas.Map.Views.{exact_unsigned_eq}
-use Rattle.nfs_model.specs.Types.{Moment}
+use Rattle.nfs_model.specs.Types.{Moment, Ownership}
 use Rattle.nfs_model.specs.volume.Maps.{changed_value}
 use Rattle.nfs_model.specs.volume.lemmas.Numbered.{itself, get-insert_at, get-remove_at, len-changed_at, insert-same, insert-twice}
 use Rattle.nfs_model.specs.volume.lemmas.Numbered.{insert-removed, removed-absent, remove-inserted, remove-absent}
@@ -56,10 +56,10 @@ filled-within v fileid inode i h = let s = filled-split v.inodes fileid inode h 
 
 -- ---- what is found
 
-pub inode-opening : (moment : Moment) (q : ℕ)
-    → inode_of (opening_inodes moment) q ≡ (if q == 1 then Some (root_inode moment) else None)
-inode-opening moment q =
-    get-from_sorted nat_cmp ((1, root_inode moment) ∷ []) q tt ∙ ap (λ b. cond b (Some (root_inode moment)) None) (unsigned_tied q 1)
+pub inode-opening : (owner : Ownership) (moment : Moment) (q : ℕ)
+    → inode_of (opening_inodes owner moment) q ≡ (if q == 1 then Some (root_inode owner moment) else None)
+inode-opening owner moment q =
+    get-from_sorted nat_cmp ((1, root_inode owner moment) ∷ []) q tt ∙ ap (λ b. cond b (Some (root_inode owner moment)) None) (unsigned_tied q 1)
 
 -- nothing stands under the next fileid
 pub next-absent : (v : InodesValue) → IsInodes v → inode_of v v.next ≡ None
@@ -166,8 +166,8 @@ used-dropped v fileid inode i h =
 
 -- ---- how many
 
-pub len-opening : (moment : Moment) → len (opening_inodes moment).inodes ≡ 1
-len-opening moment = len-entries (opening_inodes moment).inodes ∙ ap length (entries-from_sorted nat_cmp ((1, root_inode moment) ∷ []) tt)
+pub len-opening : (owner : Ownership) (moment : Moment) → len (opening_inodes owner moment).inodes ≡ 1
+len-opening owner moment = len-entries (opening_inodes owner moment).inodes ∙ ap length (entries-from_sorted nat_cmp ((1, root_inode owner moment) ∷ []) tt)
 
 pub len-created : (v : InodesValue) (inode : Inode) → IsInodes v → len (inode_created inode v).inodes ≡ len v.inodes + 1
 len-created v inode i = len-insert nat_cmp_total v.inodes v.next inode ∙ ap (λ o. cond (is_some o) (len v.inodes) (len v.inodes + 1)) (next-absent v i)
@@ -205,13 +205,13 @@ fileids-remove m k bound old f y h = by (f == k) (sym (get-remove_at m k f) ∙ 
     by true g = absurd (grind (arith, g))
     by false g = old f y g
 
-pub opening-is : (moment : Moment) → IsInodes (opening_inodes moment)
-opening-is moment = record {
-  fileids = λ f y h. by f y (f == 1) refl (sym (inode-opening moment f) ∙ h);
-  filled = sym (ap blocks_filled (entries-from_sorted nat_cmp ((1, root_inode moment) ∷ []) tt));
+pub opening-is : (owner : Ownership) (moment : Moment) → IsInodes (opening_inodes owner moment)
+opening-is owner moment = record {
+  fileids = λ f y h. by f y (f == 1) refl (sym (inode-opening owner moment f) ∙ h);
+  filled = sym (ap blocks_filled (entries-from_sorted nat_cmp ((1, root_inode owner moment) ∷ []) tt));
 }
   where
-    by : (f : ℕ) (y : Inode) (b : Bool) → b ≡ (f == 1) → (if b then Some (root_inode moment) else None) ≡ Some y → f < 2
+    by : (f : ℕ) (y : Inode) (b : Bool) → b ≡ (f == 1) → (if b then Some (root_inode owner moment) else None) ≡ Some y → f < 2
     by f y true p g = let e = exact_unsigned_eq f 1 (sym p) in omega (arith, e)
     by f y false p g = absurd (grind (arith, g))
 

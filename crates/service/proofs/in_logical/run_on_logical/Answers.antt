@@ -9,13 +9,13 @@ use Rattle.service.specs.Running.{outcome_of}
 use Rattle.service.proofs.Runs.{runs-here}
 use Rattle.service.proofs.in_logical.run_on_logical.Goals as goal
 
-pub returns-in-Some-clause-runs : goal.returns-in-Some-clause-runs
-returns-in-Some-clause-runs c =
+pub returns-then-is_told-clause-runs : goal.returns-then-is_told-clause-runs
+returns-then-is_told-clause-runs c =
     let L = layout_of c.args.layout.now in
     let v = c.args.volume.0 in
     let old = logical_before c.args.held.now in
     runs-here L v logical_lens (Logical v) c.fileid_of_call-fileid.result.0 (call_of c.args.run.call.now) (caller_of c.args.run.caller.now)
-    (moment_of c.args.run.moment) old old (outcome_of c.in-Some.outcome) c.fileid_of_call-fileid.ensures (c.in-Some.ensures.runs L)
+    (moment_of c.args.run.moment) old old (outcome_of c.tell.result) c.fileid_of_call-fileid.ensures (c.tell.ensures L)
 
 pub returns-clause-runs : goal.returns-clause-runs
 returns-clause-runs c =

@@ -5,7 +5,7 @@ use Rattle.nfs_values.specs.Call.{call_of}
 use Rattle.nfs_values.specs.Caller.{caller_of}
 use Rattle.nfs_values.specs.Moment.{moment_of}
 use Rattle.nfs_values.specs.declared.call.Call.{Call}
-use Rattle.service_data.specs.ReadingLaws.{read_call}
+use Rattle.filer_state.specs.bytes.Permitted.{read_by}
 use Rattle.filer_state.specs.state.Lenses.{stripe_lens}
 use Rattle.filer_state.specs.state.Running.{RunsOn}
 use Rattle.service_data.specs.Writing.{writing_outcome}
@@ -13,8 +13,8 @@ use Rattle.service.specs.Running.{BytesLieIn, call_of_node, outcome_of}
 use Rattle.service.proofs.Runs.{writing-runs, unless-written-there}
 use Rattle.service.proofs.in_stripe.run_on_bytes.Goals as goal
 
-pub read_in_stripe-requires : goal.read_in_stripe-requires
-read_in_stripe-requires c =
+pub read_in_stripe-told-requires : goal.read_in_stripe-told-requires
+read_in_stripe-told-requires c =
     let s = c.args.held.now.own in
     record { span = (subst (λ (call : Call). BytesLieIn s.stripes c.args.stripe c.args.fileid.0 (call_of call)) c.in-Read.is c.requires.bytes).span }
 
@@ -29,8 +29,8 @@ returns-in-Read-clause-runs c layout =
     subst (λ (call : Call). RunsOn v (stripe_lens i)
     (call_of_node layout (Stripe v i) f (caller_of c.args.run.caller.now) (moment_of c.args.run.moment) (call_of call))
     s (outcome_of c.outcome_read.result) s) (sym asked.is)
-    (subst (λ (o : Outcome). RunsOn v (stripe_lens i) (read_call asked.handle (Stripe v i) f asked.offset asked.count) s o s) (sym c.outcome_read.ensures)
-    (c.read_in_stripe.ensures.right v i asked.handle c.requires.there lies))
+    (subst (λ (o : Outcome). RunsOn v (stripe_lens i) (read_by (caller_of c.args.run.caller.now) asked.handle (Stripe v i) f asked.offset asked.count) s o s) (sym c.outcome_read.ensures)
+    (c.read_in_stripe-told.ensures.right v i asked.handle c.requires.there lies))
 
 pub write_in_stripe-told-requires : goal.write_in_stripe-told-requires
 write_in_stripe-told-requires c =

@@ -1,4 +1,5 @@
 use Rattle.std.proofs.Common.{rules, refl, arith, ◌≡◌, length}
+use Rattle.nfs_values.specs.Ownership.{ownership_of}
 use Rattle.inodes.specs.Inode.{kind_value}
 use Rattle.service_names.specs.Cards.{DiffersByCard, HasCard}
 use Rattle.service_names.proofs.Putting.{place-more, in-first, all-first}
@@ -13,7 +14,8 @@ loop-left-preserved c =
       c.loop-left.invariant.1,
       place-more (DiffersByCard c.args.fileid.0) c.args.held.now.own.stripes c.args.held.now.stripes.at c.loop-left.left c.loop-left.held.stripes.at _ _ _
           c.loop-left-test.true below (omega arith) refl c.put_card.ensures.others c.loop-left.invariant.2,
-      place-more (HasCard (kind_value c.args.kind) c.args.fileid.0) c.args.held.now.own.stripes c.args.held.now.stripes.at c.loop-left.left
+      place-more (HasCard (ownership_of c.args.owner) (kind_value c.args.kind) c.args.fileid.0) c.args.held.now.own.stripes c.args.held.now.stripes.at
+          c.loop-left.left
           c.loop-left.held.stripes.at _ _ _ c.loop-left-test.true below (omega arith) refl c.in_ok-put_card.ensures.ok c.loop-left.invariant.3,
     )
 
@@ -35,5 +37,6 @@ returns-clause-others c =
 pub returns-clause-ok : goal.returns-clause-ok
 returns-clause-ok c =
     let done = c.loop-left-test.false in
-    all-first (HasCard (kind_value c.args.kind) c.args.fileid.0) c.args.held.now.own.stripes c.args.held.now.stripes.at c.loop-left.left
+    all-first (HasCard (ownership_of c.args.owner) (kind_value c.args.kind) c.args.fileid.0) c.args.held.now.own.stripes c.args.held.now.stripes.at
+    c.loop-left.left
     c.loop-left.held.stripes.at (omega arith) c.loop-left.invariant.3

@@ -1,6 +1,6 @@
 use Rattle.std.proofs.Common.{ap}
 use Rattle.nfs_model.specs.Tree.{Logical}
-use Rattle.nfs_values.specs.Credential.{credential_of}
+use Rattle.nfs_values.specs.Caller.{caller_of}
 use Rattle.nfs_values.specs.Moment.{moment_of}
 use Rattle.nfs_values.specs.Set.{set_of}
 use Rattle.nfs_values.specs.declared.answer.Answer.TheVariants as answers
@@ -16,12 +16,12 @@ returns-clause-right c handle =
     let fileid = c.args.directory.0 in
     let name = c.args.name.now in
     let set = set_of c.args.set.now in
-    let credential = credential_of c.args.credential in
+    let caller = caller_of c.args.caller.now in
     let moment = moment_of c.args.moment in
     let old = logical_before c.args.held.now in
-    made-by v (mkdir_call handle (Logical v) fileid name set credential moment) old _ answers.MakeDirectory
-    (mkdir_done v fileid name set credential moment old)
-    (c.making_calls_are_right.ensures.mkdir v fileid handle name (Logical v) set credential moment old)
-    (λ made. c.making_calls_are_right.ensures.mkdir_starves v fileid handle name (Logical v) set credential moment old made.0 made.1 made.2 made.3)
+    made-by v (mkdir_call handle (Logical v) fileid name set caller moment) old _ answers.MakeDirectory
+    (mkdir_done v fileid name set caller moment old)
+    (c.making_calls_are_right.ensures.mkdir v fileid handle name (Logical v) set caller moment old)
+    (λ made. c.making_calls_are_right.ensures.mkdir_starves v fileid handle name (Logical v) set caller moment old made.0 made.1 made.2 made.3)
     c.directory_made.result c.directory_made.ensures.told c.directory_made.ensures.set c.directory_made.ensures.would
     (on-err-then c.directory_made.result (λ e. ap (λ h. logical_after c.args.held.now h) e) c.directory_made.ensures.starved)

@@ -13,7 +13,7 @@ use Rattle.service_names.proofs.Overs.{exclusive-upon}
 use Rattle.service_names.proofs.existing.tell_existing.Goals as goal
 
 pub returns-then-is_verifier-clause-told : goal.returns-then-is_verifier-clause-told
-returns-then-is_verifier-clause-told c = λ name.
+returns-then-is_verifier-clause-told c = λ caller name.
     let v = c.args.parent.volume.0 in
     let q = c.args.child.fileid.0 in
     let set = logical_before c.args.held.now in
@@ -23,5 +23,5 @@ returns-then-is_verifier-clause-told c = λ name.
     ∙ ap (λ (t : Option Moment). MadeDone (handle_bytes v q) (shown_inode v q (inode_value c.args.child.inode) t)
     (directory_change n (inode_value c.args.parent.inode))) c.latest_touch.ensures
     ∙ sym (ap (λ (a : LogicalAnswer). a.answer) (exclusive-upon n (node_value c.args.child) (kind_value c.args.child.inode.kind)
-    c.in-RegularFile.size c.in-RegularFile.filled kept (ap kind_value c.in-RegularFile.is) c.args.verifier.0 true
+    c.in-RegularFile.size c.in-RegularFile.filled kept (ap kind_value c.in-RegularFile.is) caller c.args.verifier.0 true
     (sym c.is_verifier.ensures ∙ c.if-is_verifier.true)))

@@ -4,9 +4,8 @@ use Rattle.nfs_model.specs.Server.{most_bytes}
 use Rattle.nfs_values.specs.Answer.{entry_of, entry_plus_of}
 use Rattle.nfs_model.specs.Serial.Readdir.{above_cookie}
 use Rattle.directories.specs.Entries.{page_value}
-use Rattle.filer_state.specs.changes.NameAnswers.{entry_told}
 use Rattle.filer_state.specs.state.Sets.{logical_before}
-use Rattle.service_names.specs.Listing.{all_under}
+use Rattle.service_names.specs.Listing.{all_under, entry_if}
 use Rattle.service_names.proofs.PagesPlus.{some-whole, some-there, page-whole, on-error, end-told, end-cut, as-many}
 use Rattle.service_names.proofs.listing_plus.page_plus_at.Goals.{then-page, else-page}
 use Rattle.service_names.proofs.listing_plus.page_plus_at.Goals as goal
@@ -47,5 +46,5 @@ returns-clause-ok c =
       | else-page w ↦ end-cut c.if-page.is_last page.is_last _ c.len-fitting.result w.if-page.false w.is_last-is
     ] in
     page-whole names c.min-names-2.result c.args.room is remaining (page_value page)
-    c.in_ok-page.ensures.ok (entry_told c.args.volume.0 (logical_before c.args.held.now)) (map entry_plus_of told.items) c.in_ok-entries.ensures.ok
+    c.in_ok-page.ensures.ok (entry_if c.args.is_bare c.args.volume.0 (logical_before c.args.held.now)) (map entry_plus_of told.items) c.in_ok-entries.ensures.ok
     (length (map entry_plus_of told.items)) c.len-fitting.result refl (as-many entry_of page.entries.items _ many) c.if-page.is_last last

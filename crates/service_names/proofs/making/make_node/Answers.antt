@@ -3,6 +3,7 @@ use Rattle.parcels.specs.Filled.{is_filled}
 use Rattle.std.specs.Prelude.{is_some, slice_get}
 use Rattle.std.specs.FinMap.{len}
 use Rattle.nfs_model.specs.volume.Inodes.{inode_of, inodes_of_a_volume}
+use Rattle.nfs_values.specs.Ownership.{ownership_of}
 use Rattle.inodes.specs.Inode.{inode_value}
 use Rattle.service_names.specs.Cards.{InFirst, IsDropped}
 use Rattle.service_names.specs.Making.{node_unmade}
@@ -35,7 +36,7 @@ returns-in-Ok-clause-ok c =
     (c.fileid-fileid.ensures ∙ c.in_ok-created.ensures.fileid) c.create_inode.new.held c.tie.new.held c.in_ok-created.ensures.ok
     c.create_inode.ensures.stripes c.tie.ensures.others
     c.set_directory.new.held c.set_directory.ensures.stripes c.in_ok-name.name c.in_ok-name.ensures.name
-    c.in-Ok.ensures.own c.in-Ok.ensures.cards c.set_directory.ensures.own
+    c.in-Ok.ensures.own (ownership_of c.ownership-owner.result) c.ownership-owner.ensures c.in-Ok.ensures.cards c.set_directory.ensures.own
 
 pub returns-in-Ok-clause-alike : goal.returns-in-Ok-clause-alike
 returns-in-Ok-clause-alike c =

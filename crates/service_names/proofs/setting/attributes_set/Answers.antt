@@ -24,7 +24,7 @@ set_node-changed-requires c =
 pub shown-after-requires : goal.shown-after-requires
 shown-after-requires c = record {
   few = subst HasFewLinks (sym (ap (λ (i : Inode). i.kind) c.set_node-changed.ensures.inode))
-      (few-changed c.args.fileid.0 (set_of c.args.set.now) (moment_of c.args.moment) (inode_value c.in-Some.inode) (logical_before c.args.held.now)
+      (few-changed c.args.fileid.0 (set_of c.set_taken-taken.result) (moment_of c.args.moment) (inode_value c.in-Some.inode) (logical_before c.args.held.now)
       (whole-links c.args.volume.0 (logical_before c.args.held.now) c.requires.whole c.args.fileid.0 (inode_value c.in-Some.inode)
       (ap (λ (l : LogicalValue). inode_of l.inodes c.args.fileid.0) (sym c.get.ensures) ∙ sym c.in-Some.ensures)));
 }

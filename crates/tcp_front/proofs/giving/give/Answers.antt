@@ -1,35 +1,44 @@
-use Rattle.std.proofs.Common.{List, refl, sym, ap, subst}
+use Rattle.std.proofs.Common.{List, refl, sym, subst, ◌∙◌}
 use Rattle.std.specs.Prelude.{OnOk}
 use Rattle.affinity.specs.Affinity.{call_node}
 use Rattle.affinity.specs.Layout.{layout_of}
 use Rattle.nfs_model.specs.Types as types
 use Rattle.nfs_values.specs.Call.{call_of}
+use Rattle.nfs_values.specs.Caller.{caller_of}
 use Rattle.rpc_msg.specs.declared.record.Request.{Request}
 use Rattle.engine_feed.specs.Seen.{asked_of}
 use Rattle.rpc_msg.specs.declared.record.Request.TheVariants.{Call, Refused, Undecoded}
 use Rattle.tcp_front.specs.Arrivals.{Arrival}
 use Rattle.tcp_front.specs.Steps.{given_of}
-use Rattle.tcp_front.proofs.Fitting.{waits-is, answered-is}
+use Rattle.tcp_front.specs.Peers.{sender_of}
+use Rattle.tcp_front.proofs.Fitting.{asked-by, waits-is, answered-is}
 use Rattle.tcp_front.proofs.giving.give.Goals as goal
 
 pub returns-in-Some-clause-ok : goal.returns-in-Some-clause-ok
 returns-in-Some-clause-ok g c =
     let layout = layout_of c.args.layout.now in
+    let call = call_of c.in-Call.call in
+    let by = caller_of c.caller_at.result in
+    let sender = sender_of c.args.peer in
     subst (λ (r : Request). OnOk c.admit.result (g.S.RecordSink.came c.args.sink.now (given_of layout c.args.peer c.args.origin (asked_of r)) c.admit.new.self))
     (sym c.in-Call.is)
     (subst (λ (xs : List Arrival). OnOk c.admit.result (g.S.RecordSink.came c.args.sink.now xs c.admit.new.self))
-    (waits-is layout c.args.peer c.args.origin (asked_of (Call c.in-Call.call c.in-Call.caller)) _
-    (ap (λ (k : types.Caller). types.Ask (call_of c.in-Call.call) k) c.caller_at.ensures) (call_node c.in-Some.admission.affinity)
-    c.in-Some.ensures.waits.at_home) c.admit.ensures.ok)
+    (waits-is layout c.args.peer c.args.origin (asked_of (Call c.in-Call.call c.in-Call.caller)) (types.Ask call by)
+    (asked-by sender call (caller_of c.in-Call.caller) by (sym c.may_ask.ensures ∙ c.if-not-may_ask.false) c.caller_at.ensures)
+    (call_node c.in-Some.admission.affinity) c.in-Some.ensures.waits.at_home) c.admit.ensures.ok)
 
 pub returns-in-None-clause-ok : goal.returns-in-None-clause-ok
 returns-in-None-clause-ok g c =
     let layout = layout_of c.args.layout.now in
-    subst (λ (r : Request). OnOk c.answer_now.result (g.S.RecordSink.came c.args.sink.now (given_of layout c.args.peer c.args.origin (asked_of r)) c.answer_now.new.sink))
+    let call = call_of c.in-Call.call in
+    let by = caller_of c.caller_at-caller.result in
+    let sender = sender_of c.args.peer in
+    subst (λ (r : Request). OnOk c.answer_now-in-None.result (g.S.RecordSink.came c.args.sink.now (given_of layout c.args.peer c.args.origin (asked_of r)) c.answer_now-in-None.new.sink))
     (sym c.in-Call.is)
-    (subst (λ (xs : List Arrival). OnOk c.answer_now.result (g.S.RecordSink.came c.args.sink.now xs c.answer_now.new.sink))
-    (answered-is layout c.args.peer c.args.origin (asked_of (Call c.in-Call.call c.in-Call.caller)) (asked_of c.from_peer-request.result)
-    c.from_peer-request.ensures (sym c.in-None.ensures.home)) c.answer_now.ensures.ok)
+    (subst (λ (xs : List Arrival). OnOk c.answer_now-in-None.result (g.S.RecordSink.came c.args.sink.now xs c.answer_now-in-None.new.sink))
+    (answered-is layout c.args.peer c.args.origin (asked_of (Call c.in-Call.call c.in-Call.caller)) (types.Ask call by)
+    (asked-by sender call (caller_of c.in-Call.caller) by (sym c.may_ask.ensures ∙ c.if-not-may_ask.false) c.caller_at-caller.ensures)
+    (sym c.in-None.ensures.home)) c.answer_now-in-None.ensures.ok)
 
 pub returns-in-Refused-clause-ok : goal.returns-in-Refused-clause-ok
 returns-in-Refused-clause-ok g c =

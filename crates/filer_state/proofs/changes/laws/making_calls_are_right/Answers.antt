@@ -2,17 +2,17 @@ use Rattle.filer_state.specs.changes.lemmas.Makes.{create-is-done, mkdir-is-done
 use Rattle.filer_state.proofs.changes.laws.making_calls_are_right.Goals as goal
 
 pub returns-clause-create : goal.returns-clause-create
-returns-clause-create c = λ v fileid handle name node mode credential moment s.
-    create-is-done handle node fileid name mode credential moment v s
+returns-clause-create c = λ v fileid handle name node mode caller moment s.
+    create-is-done handle node fileid name mode caller moment v s
 
 pub returns-clause-mkdir : goal.returns-clause-mkdir
-returns-clause-mkdir c = λ v fileid handle name node set credential moment s.
-    mkdir-is-done handle node fileid name set credential moment v s
+returns-clause-mkdir c = λ v fileid handle name node set caller moment s.
+    mkdir-is-done handle node fileid name set caller moment v s
 
 pub returns-clause-create_starves : goal.returns-clause-create_starves
-returns-clause-create_starves c = λ v fileid handle name node mode credential moment s made object directory is absent.
-    create-starves v fileid handle name node mode credential moment s made object directory is absent
+returns-clause-create_starves c = λ v fileid handle name node mode caller moment s made object directory is absent.
+    create-starves v fileid handle name node mode caller moment s made object directory is absent
 
 pub returns-clause-mkdir_starves : goal.returns-clause-mkdir_starves
-returns-clause-mkdir_starves c = λ v fileid handle name node set credential moment s made object directory is.
-    mkdir-starves v fileid handle name node set credential moment s made object directory is
+returns-clause-mkdir_starves c = λ v fileid handle name node set caller moment s made object directory is.
+    mkdir-starves v fileid handle name node set caller moment s made object directory is

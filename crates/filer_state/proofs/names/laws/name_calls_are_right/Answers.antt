@@ -21,21 +21,22 @@ returns-clause-starved c =
 
 pub returns-clause-readdirplus : goal.returns-clause-readdirplus
 returns-clause-readdirplus c =
-    λ v fileid handle node cookie verifier names_count count set. readdirplus-right v fileid handle node cookie verifier names_count count set
+    λ v fileid handle node cookie verifier names_count count caller set.
+    readdirplus-right v fileid handle node cookie verifier names_count count caller set
 
 pub returns-clause-starved_plus : goal.returns-clause-starved_plus
 returns-clause-starved_plus c =
-    λ v fileid handle node cookie verifier names_count count set directory page eof lists.
-    readdirplus-starves v fileid handle node cookie verifier names_count count set directory page eof lists
+    λ v fileid handle node cookie verifier names_count count caller set directory page eof lists.
+    readdirplus-starves v fileid handle node cookie verifier names_count count caller set directory page eof lists
 
 pub returns-clause-access : goal.returns-clause-access
-returns-clause-access c = λ v fileid handle node asked who set. access-right v fileid handle node asked who set
+returns-clause-access c = λ v fileid handle node asked caller set. access-right v fileid handle node asked caller set
 
 pub returns-clause-fsinfo : goal.returns-clause-fsinfo
 returns-clause-fsinfo c = λ v fileid handle node set. fsinfo-right v fileid handle node set
 
 pub returns-clause-pathconf : goal.returns-clause-pathconf
-returns-clause-pathconf c = λ v fileid handle node set. pathconf-right v fileid handle node set
+returns-clause-pathconf c = λ v fileid handle node caller set. pathconf-right v fileid handle node caller set
 
 pub returns-clause-mount : goal.returns-clause-mount
-returns-clause-mount c = λ v fileid root path node set. mount-right v fileid root path node set
+returns-clause-mount c = λ v fileid root path node caller set. mount-right v fileid root path node caller set

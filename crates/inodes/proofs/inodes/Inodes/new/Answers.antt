@@ -4,6 +4,7 @@ use Rattle.std.specs.FinMap.{FinMap, get, len, get-empty, len-empty}
 use Rattle.nfs_model.specs.volume.Inodes as values
 use Rattle.nfs_model.specs.volume.lemmas.Inodes.{opening-is}
 use Rattle.nfs_values.specs.Moment.{moment_of}
+use Rattle.nfs_values.specs.Ownership.{ownership_of}
 use Rattle.inodes.specs.Inode.{inode_value}
 use Rattle.inodes.proofs.Changes.{kept, opened}
 use Rattle.inodes.proofs.Few.{kept-few, opening-few}
@@ -11,13 +12,13 @@ use Rattle.inodes.proofs.inodes.Inodes.new.Goals as goal
 
 pub invariant_of-result : goal.invariant_of-result
 invariant_of-result c =
-    let is = opened (moment_of c.args.begun) (inode_value c.root.result) c.new-by_fileid.result c.insert.new.self c.root.ensures
+    let is = opened (ownership_of c.args.owner) (moment_of c.args.begun) (inode_value c.root.result) c.new-by_fileid.result c.insert.new.self c.root.ensures
     c.new-by_fileid.ensures c.in_ok-insert.ensures.ok in
-    (kept _ _ is (opening-is (moment_of c.args.begun)), kept-few _ _ is (opening-few (moment_of c.args.begun)))
+    (kept _ _ is (opening-is (ownership_of c.args.owner) (moment_of c.args.begun)), kept-few _ _ is (opening-few (ownership_of c.args.owner) (moment_of c.args.begun)))
 
 pub returns : goal.returns
 returns c =
-    opened (moment_of c.args.begun) (inode_value c.root.result) c.new-by_fileid.result c.insert.new.self c.root.ensures
+    opened (ownership_of c.args.owner) (moment_of c.args.begun) (inode_value c.root.result) c.new-by_fileid.result c.insert.new.self c.root.ensures
     c.new-by_fileid.ensures c.in_ok-insert.ensures.ok
 
 pub insert-requires-clause-room : goal.insert-requires-clause-room

@@ -1,5 +1,6 @@
 use Rattle.std.proofs.Common.{IsSome, sym, ap, subst, ◌∙◌}
 use Rattle.std.specs.FinMap.{get, insert}
+use Rattle.nfs_values.specs.Ownership.{ownership_of}
 use Rattle.nfs_model.specs.volume.Stripes.{OfFile, touch_of}
 use Rattle.chunk_maps.specs.Maps.{values_of}
 use Rattle.chunk_maps.specs.MapLaws.{get-values_of, same-values, put-values}
@@ -12,9 +13,9 @@ use Rattle.stripe_cards.proofs.cards.Cards.set_file.Goals as goal
 pub returns-clause-ok : goal.returns-clause-ok
 returns-clause-ok c =
     on_ok (λ puts. put-values c.args.fileid.0 _ c.self.inside.chunks c.put.new.self puts
-    ∙ ap (λ touch. insert (values_of c.self.inside.chunks) c.args.fileid.0 (OfFile c.args.size touch))
+    ∙ ap (λ touch. insert (values_of c.self.inside.chunks) c.args.fileid.0 (OfFile c.args.size touch (ownership_of c.args.owner)))
     c.touch_of-touch.ensures
-    ∙ ap (λ m. insert m c.args.fileid.0 (OfFile c.args.size (touch_of (get c.args.self.now c.args.fileid.0)))) c.self.view_is) c.put.result c.put.ensures.ok
+    ∙ ap (λ m. insert m c.args.fileid.0 (OfFile c.args.size (touch_of (get c.args.self.now c.args.fileid.0)) (ownership_of c.args.owner))) c.self.view_is) c.put.result c.put.ensures.ok
 
 pub returns-clause-err : goal.returns-clause-err
 returns-clause-err c = on_err (λ same. same-values c.self.inside.chunks c.put.new.self same ∙ c.self.view_is) c.put.result c.put.ensures.err

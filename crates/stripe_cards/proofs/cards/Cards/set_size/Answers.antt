@@ -1,23 +1,21 @@
 use Rattle.std.proofs.Common.{sym, ap, subst, ◌∙◌, rules}
 use Rattle.nfs_model.specs.volume.Maps.{changed_at}
-use Rattle.stripe_cards.specs.Cards.{card_resized}
+use Rattle.nfs_model.specs.volume.Stripes.{card_sized}
 use Rattle.chunk_maps.specs.MapLaws.{changed-values}
-use Rattle.stripe_cards.proofs.Changed.{resized-cards}
 use Rattle.chunk_maps.specs.Maps.{values_of}
 use Rattle.stripe_cards.specs.Counts.{AreCounted}
-use Rattle.stripe_cards.proofs.Counted.{counted-resized}
+use Rattle.stripe_cards.proofs.Counted.{counted-sized}
 use Rattle.stripe_cards.proofs.cards.Cards.set_size.Goals as goal
 
 pub returns : goal.returns
 returns c =
-    let g = card_resized c.args.size in
+    let g = card_sized c.args.size in
     changed-values g c.args.fileid.0 c.self.inside.chunks c.change.new.self (c.change.ensures.changed g (λ x y made. search rules))
     ∙ ap (changed_at g c.args.fileid.0) c.self.view_is
-    ∙ resized-cards c.args.size c.args.fileid.0 c.args.self.now c.requires
 
 pub invariant_of-self : goal.invariant_of-self
 invariant_of-self c =
-    let g = card_resized c.args.size in
+    let g = card_sized c.args.size in
     subst (AreCounted c.self.inside.touches)
     (sym (changed-values g c.args.fileid.0 c.self.inside.chunks c.change.new.self (c.change.ensures.changed g (λ x y made. search rules))))
-    (counted-resized c.self.inside.touches (values_of c.self.inside.chunks) c.args.fileid.0 c.args.size c.self.invariant)
+    (counted-sized c.self.inside.touches (values_of c.self.inside.chunks) c.args.fileid.0 c.args.size c.self.invariant)

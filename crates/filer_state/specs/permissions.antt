@@ -1,0 +1,3 @@
+pub mod Refusing
+pub mod Laws
+pub mod lemmas

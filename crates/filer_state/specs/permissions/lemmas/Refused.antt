@@ -1,0 +1,178 @@
+-- What calls are refused by what is under Logical is what the serial server refuses.
+use Rattle.std.proofs.Common.{◌≡◌, ℕ, ◌==◌, ◌||◌, Bool, true, false, List, Option, Some, None, refl, sym, ap, ◌∙◌}
+use Rattle.std.specs.Prelude.{if◌then◌else◌}
+use Rattle.std.specs.Option.{option_map}
+use Rattle.std.specs.FinMap.{get}
+use Rattle.nfs_model.specs.Types as types
+use Rattle.nfs_model.specs.Types.{Credential, Caller, Listed, Status, CreateMode, Unchecked, Guarded, Exclusive}
+use Rattle.nfs_model.specs.Types.{Call, Setattr, Lookup, Read, Write, Create, Mkdir, Remove, Rmdir, Rename, Readdir, Readdirplus, Commit}
+use Rattle.nfs_model.specs.Server.{Attributes, DirectoryNode, Node, File, Directory}
+use Rattle.nfs_model.specs.Names.{find_name}
+use Rattle.nfs_model.specs.Locate.{Found, found_at, child}
+use Rattle.nfs_model.specs.Serial.Rights.{Protection, protection, may_read, may_write, may_search, may_list}
+use Rattle.nfs_model.specs.Serial.Permission.{needs, then_asks, of_node, of_file, of_directory, set_refusal, is_no_child, of_name, new_refusal}
+use Rattle.nfs_model.specs.Serial.Permission.{over_refusal, create_refusal, gone_refusal, target_refusal, moved_refusal, move_refusal}
+use Rattle.nfs_model.specs.Serial.Permission.{is_one_entry, rename_refusal, write_rights, is_change, refusal_by, refusal_of, refusal}
+use Rattle.nfs_model.specs.volume.Inodes.{InodeKind, RegularFile, DirectoryKind, Inode}
+use Rattle.filer_state.specs.state.Contents.{VolumeContents}
+use Rattle.filer_state.specs.state.Tree.{volume_of, node_by, node_of}
+use Rattle.filer_state.specs.state.Protected.{kind_shown, protection_of}
+use Rattle.filer_state.specs.state.Lenses.{LogicalSet, logical_lens}
+use Rattle.filer_state.specs.attributes.lemmas.Getting.{node-at}
+use Rattle.filer_state.specs.names.Answers.{entries_of}
+use Rattle.filer_state.specs.permissions.Refusing.{of_inode, if_directory, of_directory_inode, if_file, of_file_inode, protection_at, protection_under}
+use Rattle.filer_state.specs.permissions.Refusing.{new_asked, over_kind, create_asked, gone_asked, target_asked, moved_kind, move_asked}
+use Rattle.filer_state.specs.permissions.Refusing.{of_held_name, of_held_names, asked_of, refusal_held}
+
+module _ (p : VolumeContents) where
+  abbrev held : LogicalSet
+  held = logical_lens.of p
+
+  abbrev seen : ℕ → Inode → Node
+  seen fileid inode = node_of p.stripes p.logical.directories fileid inode
+
+  -- a node is protected as its inode is
+  same-protection : (fileid : ℕ) (inode : Inode) → protection (seen fileid inode) ≡ protection_of inode
+  same-protection fileid inode = by inode.kind refl
+    where
+      by : (k : InodeKind) → inode.kind ≡ k → protection (node_by p.stripes (get p.logical.directories fileid) fileid inode.attributes inode.kind)
+          ≡ protection_of inode
+      by (RegularFile size filled verifier) is =
+          ap (λ (k : InodeKind). protection (node_by p.stripes (get p.logical.directories fileid) fileid inode.attributes k)) is
+          ∙ sym (ap (λ (k : InodeKind). protection_of (record inode { kind = k })) is)
+      by (DirectoryKind parent subdirectories) is =
+          ap (λ (k : InodeKind). protection (node_by p.stripes (get p.logical.directories fileid) fileid inode.attributes k)) is
+          ∙ sym (ap (λ (k : InodeKind). protection_of (record inode { kind = k })) is)
+
+  -- ---- a node
+
+  at-node : (fileid : ℕ) (ask : Protection → Option Status)
+      → of_node (get (volume_of p).nodes fileid) ask ≡ of_inode (get p.logical.inodes.inodes fileid) ask
+  at-node fileid ask = ap (λ (o : Option Node). of_node o ask) (node-at p fileid) ∙ by (get p.logical.inodes.inodes fileid)
+    where
+      by : (o : Option Inode) → of_node (option_map (seen fileid) o) ask ≡ of_inode o ask
+      by None = refl
+      by (Some inode) = ap ask (same-protection fileid inode)
+
+  -- what is asked of a file, or of a directory, by the kind of its inode
+  at-file : (fileid : ℕ) (ask : Protection → Option Status)
+      → of_file (get (volume_of p).nodes fileid) ask ≡ of_file_inode (get p.logical.inodes.inodes fileid) ask
+  at-file fileid ask = ap (λ (o : Option Node). of_file o ask) (node-at p fileid) ∙ by (get p.logical.inodes.inodes fileid)
+    where
+      kinds : (inode : Inode) (k : InodeKind) → inode.kind ≡ k
+          → of_file (Some (node_by p.stripes (get p.logical.directories fileid) fileid inode.attributes k)) ask ≡ if_file k (ask (protection_of inode))
+      kinds inode (RegularFile size filled verifier) is =
+          ap ask (ap (λ (k : InodeKind). protection (node_by p.stripes (get p.logical.directories fileid) fileid inode.attributes k)) (sym is)
+          ∙ same-protection fileid inode)
+      kinds inode (DirectoryKind parent subdirectories) is = refl
+
+      by : (o : Option Inode) → of_file (option_map (seen fileid) o) ask ≡ of_file_inode o ask
+      by None = refl
+      by (Some inode) = kinds inode inode.kind refl
+
+  -- and of a directory, whose entries are those that are held
+  at-directory : (fileid : ℕ) (ask : DirectoryNode → Option Status) (told : Protection → Option Status)
+      → ((d : DirectoryNode) → d.list ≡ (entries_of p.logical fileid).list → ask d ≡ told (protection (Directory d)))
+      → of_directory (get (volume_of p).nodes fileid) ask ≡ of_directory_inode (get p.logical.inodes.inodes fileid) told
+  at-directory fileid ask told same = ap (λ (o : Option Node). of_directory o ask) (node-at p fileid) ∙ by (get p.logical.inodes.inodes fileid)
+    where
+      kinds : (inode : Inode) (k : InodeKind) → inode.kind ≡ k
+          → of_directory (Some (node_by p.stripes (get p.logical.directories fileid) fileid inode.attributes k)) ask
+          ≡ if_directory k (told (protection_of inode))
+      kinds inode (RegularFile size filled verifier) is = refl
+      kinds inode (DirectoryKind parent subdirectories) is =
+          same _ refl
+          ∙ ap told (ap (λ (k : InodeKind). protection (node_by p.stripes (get p.logical.directories fileid) fileid inode.attributes k)) (sym is)
+          ∙ same-protection fileid inode)
+
+      by : (o : Option Inode) → of_directory (option_map (seen fileid) o) ask ≡ of_directory_inode o told
+      by None = refl
+      by (Some inode) = kinds inode inode.kind refl
+
+  -- ---- the node under a name
+
+  at-child : {A : Type 0} (ask : Option Found → A) (told : Option Protection → A) → ask None ≡ told None
+      → ((found : Found) → ask (Some found) ≡ told (Some (protection found.node)))
+      → (o : Option Listed) → ask (child (volume_of p) o) ≡ told (protection_at held (option_map (λ (e : Listed). e.fileid) o))
+  at-child ask told none some None = none
+  at-child ask told none some (Some e) =
+      ap (λ (o : Option Node). ask (found_at e.fileid o)) (node-at p e.fileid) ∙ by (get p.logical.inodes.inodes e.fileid)
+    where
+      by : (o : Option Inode) → ask (found_at e.fileid (option_map (seen e.fileid) o)) ≡ told (option_map protection_of o)
+      by None = none
+      by (Some inode) = some _ ∙ ap (λ (x : Protection). told (Some x)) (same-protection e.fileid inode)
+
+  -- ---- names
+
+  module _ (who : Credential) where
+    over-same : (mode : CreateMode) (node : Node) → over_refusal who mode node ≡ over_kind who mode (protection node) (protection node).kind
+    over-same (Unchecked set) (File f) = refl
+    over-same (Unchecked set) (Directory d) = refl
+    over-same (Guarded set) (File f) = refl
+    over-same (Guarded set) (Directory d) = refl
+    over-same (Exclusive verifier) (File f) = refl
+    over-same (Exclusive verifier) (Directory d) = refl
+
+    moved-same : (stays : Bool) (node : Node) → moved_refusal who stays node ≡ moved_kind who stays (protection node) (protection node).kind
+    moved-same stays (File f) = refl
+    moved-same stays (Directory d) = refl
+
+    target-same : (directory : Protection) (o : Option Listed)
+        → target_refusal who directory (child (volume_of p) o)
+        ≡ target_asked who directory (protection_at held (option_map (λ (e : Listed). e.fileid) o))
+    target-same directory = at-child (target_refusal who directory) (target_asked who directory) refl (λ found. refl)
+
+    move-same : (stays : Bool) (from to : Protection) (o t : Option Listed)
+        → move_refusal who stays from to (child (volume_of p) o) (child (volume_of p) t)
+        ≡ move_asked who stays from to (protection_at held (option_map (λ (e : Listed). e.fileid) o))
+        (protection_at held (option_map (λ (e : Listed). e.fileid) t))
+    move-same stays from to o t =
+        at-child (λ x. move_refusal who stays from to x (child (volume_of p) t))
+        (λ x. move_asked who stays from to x (protection_at held (option_map (λ (e : Listed). e.fileid) t))) refl (λ found.
+        λ j. then_asks (gone_refusal who from (Some found)) (then_asks (target-same to t j) (moved-same stays found.node j))) o
+
+    -- a name of a directory
+    name-same : (name : List ℕ) (fileid : ℕ) (ask : Protection → Option Found → Option Status) (told : Protection → Option Protection → Option Status)
+        → ((directory : Protection) → ask directory None ≡ told directory None)
+        → ((directory : Protection) (found : Found) → ask directory (Some found) ≡ told directory (Some (protection found.node)))
+        → of_name who name (volume_of p) fileid ask ≡ of_held_name who name held fileid told
+    name-same name fileid ask told none some = at-directory fileid _ _ (λ d list.
+        λ j. then_asks (needs (may_search who (protection (Directory d))))
+        (if is_no_child name then None
+        else (ap (λ l. ask (protection (Directory d)) (child (volume_of p) (find_name name l))) list
+        ∙ at-child (ask (protection (Directory d))) (told (protection (Directory d))) (none (protection (Directory d)))
+        (some (protection (Directory d))) (find_name name (entries_of p.logical fileid).list)) j))
+
+    -- two names
+    names-same : (from_name to_name : List ℕ) (from to : ℕ)
+        → rename_refusal who from_name to_name (volume_of p) from to ≡ of_held_names who from_name to_name held from to
+    names-same from_name to_name from to = at-directory from _ _ (λ d list. at-directory to _ _ (λ e others.
+        λ j. then_asks (needs (may_search who (protection (Directory d)))) (then_asks (needs (may_search who (protection (Directory e))))
+        (if is_no_child from_name || is_no_child to_name || is_one_entry from from_name to to_name then None
+        else ((λ k. move_refusal who (from == to) (protection (Directory d)) (protection (Directory e))
+        (child (volume_of p) (find_name from_name (list k))) (child (volume_of p) (find_name to_name (others k))))
+        ∙ move-same (from == to) (protection (Directory d)) (protection (Directory e)) (find_name from_name (entries_of p.logical from).list)
+        (find_name to_name (entries_of p.logical to).list)) j))))
+
+    -- ---- calls
+
+    asked-same : (call : Call) (fileid other : ℕ) → refusal_by who call (volume_of p) fileid other ≡ asked_of who call held fileid other
+    asked-same (Setattr handle set guard) fileid other = at-node fileid (set_refusal who set)
+    asked-same (Lookup directory name) fileid other = at-directory fileid _ _ (λ d list. refl)
+    asked-same (Read handle offset count) fileid other = at-file fileid (λ file. needs (may_read who file))
+    asked-same (Write handle offset count written) fileid other = at-file fileid (write_rights who)
+    asked-same (Create directory name mode) fileid other =
+        name-same name fileid (create_refusal who mode) (create_asked who mode) (λ d. refl) (λ d found. over-same mode found.node)
+    asked-same (Mkdir directory name set) fileid other = name-same name fileid (new_refusal who) (new_asked who) (λ d. refl) (λ d found. refl)
+    asked-same (Remove directory name) fileid other = name-same name fileid (gone_refusal who) (gone_asked who) (λ d. refl) (λ d found. refl)
+    asked-same (Rmdir directory name) fileid other = name-same name fileid (gone_refusal who) (gone_asked who) (λ d. refl) (λ d found. refl)
+    asked-same (Rename from from_name to to_name) fileid other = names-same from_name to_name fileid other
+    asked-same (Readdir directory cookie verifier count) fileid other = at-directory fileid _ _ (λ d list. refl)
+    asked-same (Readdirplus directory cookie verifier names_count count) fileid other = at-directory fileid _ _ (λ d list. refl)
+    asked-same (Commit handle) fileid other = at-file fileid (λ file. needs (may_read who file || may_write who file))
+    asked-same call fileid other = refl
+
+  -- what a caller is refused
+  pub refused-same : (caller : Caller) (call : Call) (fileid other : ℕ)
+      → refusal caller call (volume_of p) fileid other ≡ refusal_held caller call held fileid other
+  refused-same caller call fileid other = ap (refusal_of caller (is_change call)) (asked-same caller.credential call fileid other)

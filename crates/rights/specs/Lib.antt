@@ -1,0 +1,4 @@
+pub mod Protection
+pub mod Refusing
+pub mod Setting
+pub mod Making
