@@ -102,7 +102,7 @@ abbrev pub named_child : Naming → Option Found
 named_child n = child n.volume (find_name n.name n.directory.list)
 
 -- A call on a name of a directory: STALE, NOTDIR, what is wrong with the name. So begin LOOKUP,
--- CREATE, MKDIR, REMOVE and RMDIR.
+-- CREATE, MKDIR, SYMLINK, MKNOD, REMOVE and RMDIR, and LINK once its object is there.
 abbrev pub on_name : List ℕ → Moment → (Naming → Effect) → VolumeState → ℕ → Effect
 on_name name moment run volume fileid = on_directory (get volume.nodes fileid) (λ d.
     unless (name_fault name) (run (record {

@@ -9,7 +9,7 @@ pub data Change : Type 0 where
   Sets : (handle : List ℕ) (set : SetAttributes) (guard : Option Moment) → Change
   Creates : (directory name : List ℕ) (mode : CreateMode) → Change
   MakesDirectory : (directory name : List ℕ) (set : SetAttributes) → Change
-  MakesLink : (directory name : List ℕ) (set : SetAttributes) (text : List ℕ) → Change
+  MakesSymbolicLink : (directory name : List ℕ) (set : SetAttributes) (text : List ℕ) → Change
   MakesNode : (directory name : List ℕ) (kind : Kind) (set : SetAttributes) → Change
   Removes : (directory name : List ℕ) → Change
   RemovesDirectory : (directory name : List ℕ) → Change

@@ -22,15 +22,14 @@ abbrev pub changes_given : Caller → Rights → Bool
 changes_given caller r = writes_given caller r && (r.executes || not caller.checked)
 
 -- READ 1, MODIFY 4, EXTEND 8 and EXECUTE 32, of all but directories
-abbrev pub bits_of_file : Caller → ℕ → Rights → ℕ
-bits_of_file caller asked r =
-    bit_given asked 1 r.reads + bit_given asked 4 (writes_given caller r) + bit_given asked 8 (writes_given caller r)
-    + bit_given asked 32 r.executes
+abbrev pub bits_of_file : ℕ → Rights → Bool → ℕ
+bits_of_file asked r writes = bit_given asked 1 r.reads + bit_given asked 4 writes + bit_given asked 8 writes + bit_given asked 32 r.executes
 
--- LOOKUP 2 and DELETE 16 besides, and not EXECUTE, of a directory
+-- LOOKUP 2 and DELETE 16 besides, and not EXECUTE, of a directory. What is written to a FIFO or a device changes nothing here, so that w of
+-- it is given to who may change nothing too.
 abbrev pub bits_given : Caller → ℕ → Kind → Rights → ℕ
-bits_given caller asked Regular r = bits_of_file caller asked r
-bits_given caller asked (SpecialKind special) r = bits_of_file caller asked r
+bits_given caller asked Regular r = bits_of_file asked r (writes_given caller r)
+bits_given caller asked (SpecialKind special) r = bits_of_file asked r r.writes
 bits_given caller asked DirectoryKind r =
     bit_given asked 1 r.reads + bit_given asked 2 r.executes + bit_given asked 4 (changes_given caller r)
     + bit_given asked 8 (changes_given caller r) + bit_given asked 16 (changes_given caller r)

@@ -1,5 +1,5 @@
 -- LINK (RFC 1813 section 3.3.15), inside one volume. A symbolic link may have more names too.
-use Rattle.std.specs.Prelude.{ℕ, Bool, nat_le, List, Option, Some, None, if◌then◌else◌}
+use Rattle.std.specs.Prelude.{ℕ, nat_le, List, Option, Some, None, if◌then◌else◌}
 use Rattle.std.specs.FinMap.{get, insert}
 use Rattle.nfs_model.specs.Types.{Moment, LinkDone, Status, Exists, Invalid, TooManyLinks}
 use Rattle.nfs_model.specs.Server.{Node, File, Directory, Special, VolumeState}

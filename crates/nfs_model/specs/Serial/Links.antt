@@ -1,23 +1,29 @@
 -- How many names a node has (nlink of fattr3, RFC 1813 section 2.6): LINK gives it one more, REMOVE and RENAME take one, and with its last
--- name it goes. A directory has one name, and links that are counted otherwise (`shown`).
+-- name it goes. A directory has one name, but for the root, and links that are counted otherwise (`shown`).
 use Rattle.std.specs.Prelude.{ℕ, ◌+◌, ◌-◌, nat_le, Option, Some, None, if◌then◌else◌}
 use Rattle.std.specs.Ordering.{nat_cmp}
 use Rattle.std.specs.FinMap.{FinMap, insert, remove}
 use Rattle.nfs_model.specs.Types.{Moment}
-use Rattle.nfs_model.specs.Server.{FileNode, DirectoryNode, SpecialNode, Node, File, Directory, Special}
+use Rattle.nfs_model.specs.Server.{FileNode, SpecialNode, Node, File, Directory, Special}
 use Rattle.nfs_model.specs.Shown.{settled}
 
 -- PATHCONF's linkmax (RFC 1813 section 3.3.20), of what isn't a directory (our profile)
 abbrev pub most_links : ℕ
 most_links = 65000
 
--- with another count of names; a file settles, and ctime is set
+-- a file settles, and ctime is set
+abbrev pub changed_file : Moment → FileNode → FileNode
+changed_file moment f = record (settled f) { attributes = record (settled f).attributes { ctime = moment } }
+
+abbrev pub changed_special : Moment → SpecialNode → SpecialNode
+changed_special moment s = record s { attributes = record s.attributes { ctime = moment } }
+
+-- with another count of names
 abbrev pub linked_file : ℕ → Moment → FileNode → FileNode
-linked_file links moment f =
-    record (settled f) { links = links; attributes = record (settled f).attributes { ctime = moment } }
+linked_file links moment f = record (changed_file moment f) { links = links }
 
 abbrev pub linked_special : ℕ → Moment → SpecialNode → SpecialNode
-linked_special links moment s = record s { links = links; attributes = record s.attributes { ctime = moment } }
+linked_special links moment s = record (changed_special moment s) { links = links }
 
 -- a node with one more name; of a directory there is none
 abbrev pub with_link : Moment → Node → Node

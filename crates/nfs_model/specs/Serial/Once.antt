@@ -4,7 +4,7 @@ use Rattle.std.specs.Prelude.{ℕ, ◌+◌, ◌%◌, Bool, ◌&&◌, ◌==◌, n
 use Rattle.std.specs.Prelude.{if◌then◌else◌}
 use Rattle.nfs_model.specs.Types.{Moment, Caller, Call, Setattr, Create, Mkdir, Symlink, Mknod, Remove, Rmdir, Rename, Link}
 use Rattle.nfs_model.specs.Types.{Answer, SetattrDone, MadeDone, GoneDone, RenameDone, LinkDone}
-use Rattle.nfs_model.specs.Memo.{Change, Sets, Creates, MakesDirectory, MakesLink, MakesNode, Removes, RemovesDirectory, Renames, Links}
+use Rattle.nfs_model.specs.Memo.{Change, Sets, Creates, MakesDirectory, MakesSymbolicLink, MakesNode, Removes, RemovesDirectory, Renames, Links}
 use Rattle.nfs_model.specs.Memo.{Told, ToldSet, ToldMade, ToldGone, ToldRenamed, ToldLinked, Memo}
 use Rattle.nfs_model.specs.Server.{VolumeState, handle_bytes}
 use Rattle.nfs_model.specs.Shown.{moment_le}
@@ -24,7 +24,7 @@ change_of (Setattr handle set guard) = if length handle == 12 then Some (Sets ha
 change_of (Create directory name mode) = if is_short directory name then Some (Creates directory name mode) else None
 change_of (Mkdir directory name set) = if is_short directory name then Some (MakesDirectory directory name set) else None
 change_of (Symlink directory name set text) =
-    if is_short directory name && nat_le (length text) most_text then Some (MakesLink directory name set text) else None
+    if is_short directory name && nat_le (length text) most_text then Some (MakesSymbolicLink directory name set text) else None
 change_of (Mknod directory name kind set) = if is_short directory name then Some (MakesNode directory name kind set) else None
 change_of (Remove directory name) = if is_short directory name then Some (Removes directory name) else None
 change_of (Rmdir directory name) = if is_short directory name then Some (RemovesDirectory directory name) else None

@@ -5,7 +5,7 @@ use Rattle.std.specs.Prelude.{ℕ, Bool, true, false, not, ◌&&◌, ◌||◌, �
 use Rattle.std.specs.FinMap.{get}
 use Rattle.nfs_model.specs.Types.{Credential, Caller, SetTime, Keep, ServerTime, ClientTime, SetAttributes}
 use Rattle.nfs_model.specs.Types.{CreateMode, Unchecked, Status, Access, NotPermitted, ReadOnly}
-use Rattle.nfs_model.specs.Types.{Kind, Regular, DirectoryKind, SpecialKind, SymbolicLink, Fifo, Socket, BlockDevice, CharacterDevice, SpecialType}
+use Rattle.nfs_model.specs.Types.{Kind, SpecialKind, BlockDevice, CharacterDevice}
 use Rattle.nfs_model.specs.Types.{Call, Setattr, Lookup, Read, Write, Create, Mkdir, Symlink, Mknod, Remove, Rmdir, Rename, Link, Readdir}
 use Rattle.nfs_model.specs.Types.{Readdirplus, Commit}
 use Rattle.nfs_model.specs.Server.{DirectoryNode, Node, File, Directory, Special, VolumeState}
@@ -99,7 +99,7 @@ abbrev pub new_refusal : Credential → Protection → Option Found → Option S
 new_refusal who directory None = needs (may_change who directory)
 new_refusal who directory (Some found) = None
 
--- a device is for uid 0 to make (POSIX, mknod); only MKNOD's kinds are asked
+-- a device is for uid 0 to make (POSIX, mknod)
 abbrev pub is_device : Kind → Bool
 is_device (SpecialKind (BlockDevice device)) = true
 is_device (SpecialKind (CharacterDevice device)) = true

@@ -9,7 +9,7 @@ use Rattle.nfs_model.specs.Shown.{wcc}
 use Rattle.nfs_model.specs.Names.{is_dots, name_fault, dropped_name, with_name}
 use Rattle.nfs_model.specs.Locate.{Effect, Fails, Tells, Changes, unless, on_directory, Found, Naming}
 use Rattle.nfs_model.specs.Locate.{is_node_of, named_child}
-use Rattle.nfs_model.specs.Serial.Links.{linked_file, linked_special, without_link, node_left}
+use Rattle.nfs_model.specs.Serial.Links.{changed_file, changed_special, without_link, node_left}
 
 -- two names of a volume's directories, which may be one directory; both have the call's moment
 pub record Renaming : Type 0 where
@@ -119,10 +119,10 @@ without_target to (Some target) nodes =
 
 -- a file settles, a directory gets its new parent; ctime is set
 abbrev pub moved_node : ℕ → Moment → Node → Node
-moved_node parent moment (File f) = File (linked_file f.links moment f)
+moved_node parent moment (File f) = File (changed_file moment f)
 moved_node parent moment (Directory d) =
     Directory (record d { parent = parent; attributes = record d.attributes { ctime = moment } })
-moved_node parent moment (Special s) = Special (linked_special s.links moment s)
+moved_node parent moment (Special s) = Special (changed_special moment s)
 
 -- the node that moves is below the directory of to
 abbrev pub with_moved : Naming → ℕ → Nodes → Nodes

@@ -3,7 +3,7 @@ use Rattle.std.specs.Prelude.{ℕ, Bool, true, false, ◌&&◌, ◌==◌, Option
 use Rattle.nfs_model.specs.Types.{Moment, Caller, SetTime, Keep, ServerTime, ClientTime, SetAttributes, CreateMode, Unchecked, Guarded}
 use Rattle.nfs_model.specs.Types.{Exclusive, Device, SpecialType, SymbolicLink, Fifo, Socket, BlockDevice, CharacterDevice}
 use Rattle.nfs_model.specs.Types.{Kind, Regular, DirectoryKind, SpecialKind}
-use Rattle.nfs_model.specs.Memo.{Change, Sets, Creates, MakesDirectory, MakesLink, MakesNode, Removes, RemovesDirectory, Renames, Links}
+use Rattle.nfs_model.specs.Memo.{Change, Sets, Creates, MakesDirectory, MakesSymbolicLink, MakesNode, Removes, RemovesDirectory, Renames, Links}
 use Rattle.nfs_model.specs.Names.{same_name}
 use Rattle.nfs_model.specs.Shown.{same_moment}
 
@@ -58,7 +58,7 @@ abbrev pub same_change : Change → Change → Bool
 same_change (Sets h a g) (Sets k b i) = same_name h k && same_set a b && same_guard g i
 same_change (Creates d n m) (Creates e o p) = same_name d e && same_name n o && same_mode m p
 same_change (MakesDirectory d n a) (MakesDirectory e o b) = same_name d e && same_name n o && same_set a b
-same_change (MakesLink d n a t) (MakesLink e o b u) = same_name d e && same_name n o && same_set a b && same_name t u
+same_change (MakesSymbolicLink d n a t) (MakesSymbolicLink e o b u) = same_name d e && same_name n o && same_set a b && same_name t u
 same_change (MakesNode d n k a) (MakesNode e o l b) = same_name d e && same_name n o && same_kind k l && same_set a b
 same_change (Removes d n) (Removes e o) = same_name d e && same_name n o
 same_change (RemovesDirectory d n) (RemovesDirectory e o) = same_name d e && same_name n o

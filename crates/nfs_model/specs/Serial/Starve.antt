@@ -58,13 +58,13 @@ entry_in (Some (Special s)) name = None
 abbrev pub entry_named : Server → List ℕ → List ℕ → Option Listed
 entry_named server directory name = entry_in (node_named (locate server directory)) name
 
--- whether two entries are there, of one fileid
+-- whether two entries are there, of one fileid: so both names are of one node (`is_node_of`), since what is named is there
 abbrev pub name_one : Option Listed → Option Listed → Bool
 name_one None to = false
 name_one (Some from) None = false
 name_one (Some from) (Some to) = from.fileid == to.fileid
 
--- whether a call with this answer takes memory: READLINK, READ that gives bytes, READDIR, READDIRPLUS, CENSUS,
+-- whether a call with this answer may take memory: READLINK, READ that gives bytes, READDIR, READDIRPLUS, CENSUS,
 -- WRITE that fills a block, CREATE, MKDIR, SYMLINK, MKNOD, LINK and RENAME that add an entry (a CREATE adds one
 -- exactly when the name isn't there; a RENAME, when its names aren't of one node)
 abbrev pub takes_memory : Server → Call → Answer → Bool

@@ -1,32 +1,24 @@
 -- SYMLINK (RFC 1813 section 3.3.10).
-use Rattle.std.specs.Prelude.{ℕ, Bool, nat_lt, ◌==◌, List, length, Option, Some, None, is_some, if◌then◌else◌}
+use Rattle.std.specs.Prelude.{ℕ, nat_lt, ◌==◌, List, length, Option, Some, None, if◌then◌else◌}
 use Rattle.std.specs.List.{list_any}
 use Rattle.nfs_model.specs.Types.{Moment, Caller, SetAttributes, SpecialType, SymbolicLink, SpecialKind}
-use Rattle.nfs_model.specs.Types.{Status, NoEntry, Exists, Invalid, NoSpace, NameTooLong}
-use Rattle.nfs_model.specs.Server.{Node, Special, VolumeState}
+use Rattle.nfs_model.specs.Types.{Status, NoEntry, Exists, Invalid, NameTooLong}
+use Rattle.nfs_model.specs.Server.{Node, Special}
 use Rattle.nfs_model.specs.Names.{is_dots}
 use Rattle.nfs_model.specs.Locate.{Effect, Fails, unless, Found, Naming, named_child}
-use Rattle.nfs_model.specs.Serial.Setattr.{has_bad_time}
-use Rattle.nfs_model.specs.Serial.Create.{Maker, maker, new_attributes, is_full, made}
+use Rattle.nfs_model.specs.Serial.Create.{Maker, maker, new_attributes, made}
+use Rattle.nfs_model.specs.Serial.Mkdir.{mkdir_fault}
 
--- the longest text (our profile)
+-- the longest text, in bytes (our profile): the longest path of POSIX, PATH_MAX, without the byte 0 at its end
 abbrev pub most_text : ℕ
-most_text = 1024
+most_text = 4095
 
--- what is wrong with a text: over 1,024 bytes; empty; byte 0 (our profile)
+-- what is wrong with a text: too long; empty; byte 0 (our profile)
 abbrev pub text_fault : List ℕ → Option Status
 text_fault text =
     if nat_lt most_text (length text) then Some NameTooLong
     else if length text == 0 then Some NoEntry
     else if list_any (λ b. b == 0) text then Some Invalid
-    else None
-
--- the first check that fails of what has no size to be set: the times, a size, inodes
-abbrev pub new_fault : VolumeState → SetAttributes → Option Status
-new_fault volume set =
-    if has_bad_time set then Some Invalid
-    else if is_some set.size then Some Invalid
-    else if is_full volume then Some NoSpace
     else None
 
 -- a special node as it is made, of this mode if none is given
@@ -43,7 +35,7 @@ abbrev pub symlink_at : Naming → SetAttributes → List ℕ → Caller → Opt
 symlink_at n set text caller (Some found) = Fails Exists
 symlink_at n set text caller None =
     unless (text_fault text)
-    (unless (new_fault n.volume set) (made n (new_special SymbolicLink 511 set text (maker caller n) n.moment)))
+    (unless (mkdir_fault n.volume set) (made n (new_special SymbolicLink 511 set text (maker caller n) n.moment)))
 
 -- on a good name: EXIST for `.` and `..`
 abbrev pub symlink : SetAttributes → List ℕ → Caller → Naming → Effect

@@ -12,7 +12,7 @@ use Rattle.nfs_model.specs.Types as types
 use Rattle.nfs_model.specs.Types.{Moment, Ownership, Listed, Caller, SetTime, Keep, ServerTime, ClientTime, SetAttributes, CreateMode, Unchecked, Guarded}
 use Rattle.nfs_model.specs.Types.{Exclusive, Device, SpecialType, SymbolicLink, Fifo, Socket, BlockDevice, CharacterDevice}
 use Rattle.nfs_model.specs.Types.{Kind, Regular, SpecialKind, Shown, Wcc}
-use Rattle.nfs_model.specs.Memo.{Change, Sets, Creates, MakesDirectory, MakesLink, MakesNode, Removes, RemovesDirectory, Renames, Links}
+use Rattle.nfs_model.specs.Memo.{Change, Sets, Creates, MakesDirectory, MakesSymbolicLink, MakesNode, Removes, RemovesDirectory, Renames, Links}
 use Rattle.nfs_model.specs.Memo.{Told, ToldSet, ToldMade, ToldGone, ToldRenamed, ToldLinked, Memo}
 use Rattle.nfs_model.specs.Server.{Attributes}
 use Rattle.nfs_model.specs.volume.Directories.{DirectoryValue}
@@ -238,7 +238,7 @@ change_out (MakesDirectory directory name set) = inl (inr (inl (inl ((directory,
 change_out (Removes directory name) = inl (inr (inl (inr (directory, name))))
 change_out (RemovesDirectory directory name) = inl (inr (inr (inl (directory, name))))
 change_out (Renames from from_name to to_name) = inl (inr (inr (inr ((from, from_name), (to, to_name)))))
-change_out (MakesLink directory name set text) = inr (inl ((directory, name), (set, text)))
+change_out (MakesSymbolicLink directory name set text) = inr (inl ((directory, name), (set, text)))
 change_out (MakesNode directory name kind set) = inr (inr (inl ((directory, name), (kind, set))))
 change_out (Links handle directory name) = inr (inr (inr (handle, (directory, name))))
 
@@ -249,7 +249,7 @@ change_back (inl (inr (inl (inl p)))) = MakesDirectory p.0.0 p.0.1 p.1
 change_back (inl (inr (inl (inr p)))) = Removes p.0 p.1
 change_back (inl (inr (inr (inl p)))) = RemovesDirectory p.0 p.1
 change_back (inl (inr (inr (inr p)))) = Renames p.0.0 p.0.1 p.1.0 p.1.1
-change_back (inr (inl p)) = MakesLink p.0.0 p.0.1 p.1.0 p.1.1
+change_back (inr (inl p)) = MakesSymbolicLink p.0.0 p.0.1 p.1.0 p.1.1
 change_back (inr (inr (inl p))) = MakesNode p.0.0 p.0.1 p.1.0 p.1.1
 change_back (inr (inr (inr p))) = Links p.0 p.1.0 p.1.1
 
@@ -260,7 +260,7 @@ change_again (MakesDirectory directory name set) = refl
 change_again (Removes directory name) = refl
 change_again (RemovesDirectory directory name) = refl
 change_again (Renames from from_name to to_name) = refl
-change_again (MakesLink directory name set text) = refl
+change_again (MakesSymbolicLink directory name set text) = refl
 change_again (MakesNode directory name kind set) = refl
 change_again (Links handle directory name) = refl
 
