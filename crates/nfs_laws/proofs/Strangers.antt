@@ -15,13 +15,13 @@ use Rattle.nfs_model.specs.Locate.{Effect, Fails, Tells, unless, on_node, on_dir
 use Rattle.nfs_model.specs.Serial.Rights.{Protection, protected, protection, rights_of, is_owner_or_root, may_write, may_change, may_search}
 use Rattle.nfs_model.specs.Serial.Permission.{needs, reserved, then_asks, of_node, of_file, of_directory, sets_owned, set_refusal}
 use Rattle.nfs_model.specs.Serial.Permission.{is_no_child, new_refusal, over_refusal, create_refusal, gone_refusal, target_refusal, moved_refusal, move_refusal}
-use Rattle.nfs_model.specs.Serial.Permission.{mknod_refusal, link_refusal, write_rights, is_change, refusal_by, permitted, permitted_two}
+use Rattle.nfs_model.specs.Serial.Permission.{mknod_refusal, write_rights, is_change, refusal_by, permitted, permitted_two}
 use Rattle.nfs_model.specs.Serial.Setattr.{given, given_mode, set_node, set_taken, setattr_fault, replaced, with_node, setattr}
 use Rattle.nfs_model.specs.Serial.Write.{Writing, write_some, write}
 use Rattle.nfs_model.specs.Serial.Create.{with_child, made, is_verifier, new_file, maker, create_over, create_at, create}
 use Rattle.nfs_model.specs.Serial.Mkdir.{new_directory, mkdir_at, mkdir}
 use Rattle.nfs_model.specs.Serial.Symlink.{text_fault, new_special, symlink_at, symlink}
-use Rattle.nfs_model.specs.Serial.Mknod.{if_made, mknod_kind, mknod_at, mknod}
+use Rattle.nfs_model.specs.Serial.Mknod.{if_made, mknod_at, mknod}
 use Rattle.nfs_model.specs.Serial.Links.{with_link, without_link, node_left}
 use Rattle.nfs_model.specs.Serial.Remove.{without_child, gone, remove_found, remove_at, remove_name}
 use Rattle.nfs_model.specs.Serial.Rmdir.{rmdir_found, rmdir_at, rmdir}

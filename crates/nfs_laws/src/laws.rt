@@ -37,6 +37,7 @@ ghost use Rattle.nfs_model.specs.Memo.{Change};
 ghost use Rattle.nfs_model.specs.Serial.Once.{change_of};
 ghost use Rattle.nfs_laws.specs.Repeated.{Place, memos_of, places_of, volume_of, is_success};
 ghost use Rattle.nfs_laws.specs.Repeated.{remembered_in, AreElsewhere, IsAgain, serve_forgetting};
+ghost use Rattle.nfs_laws.specs.Links.{NamesAgree};
 ghost use Rattle.nfs_laws.specs.Permissions.{refused, remembered_of, IsFree, bits_of};
 ghost use Rattle.nfs_laws.specs.Permissions.{free_attributes, MayNotWrite, MayNotChange};
 ghost use Rattle.nfs_laws.specs.Permissions.{AreAskedBy, node_of, IsAsWas};
@@ -268,6 +269,15 @@ pub fn fileids_lie_below_the_next()
         → slice_get (server_after (opening layout verifier) calls).volumes volume ≡ Some state
         → get state.nodes fileid ≡ Some node
         → nat_lt fileid state.next ≡ true }
+{}
+
+/// At any time of a run, each node of a volume has just as many names as its links say, a directory
+/// one, the root none; and what is named is there (nlink of fattr3, RFC 1813 section 2.6).
+pub fn names_and_links_agree()
+    ensures { (layout : Layout) (verifier : List ℕ) (calls : List FinishedCall)
+        (volume : ℕ) (state : VolumeState)
+        → slice_get (server_after (opening layout verifier) calls).volumes volume ≡ Some state
+        → NamesAgree state }
 {}
 
 /// While strangers alone call, a directory keeps its names, its mode, its owner and its group, as

@@ -20,7 +20,7 @@ use Rattle.filer_state.specs.nodes.Laws.{MayHang}
 use Rattle.filer_state.specs.nodes.lemmas.Others as others
 use Rattle.filer_state.specs.nodes.lemmas.Others.{IsChildOf}
 use Rattle.filer_state.specs.nodes.lemmas.Summed.{total-set}
-use Rattle.filer_state.specs.nodes.lemmas.Listing.{count-more, all-more, added-is}
+use Rattle.nfs_model.specs.volume.lemmas.Listing.{count-more, all-more, added-is}
 use Rattle.filer_state.specs.nodes.lemmas.Named.{parent-kept, counted-more}
 use Rattle.filer_state.specs.nodes.lemmas.Untied.{AreNamedBut}
 

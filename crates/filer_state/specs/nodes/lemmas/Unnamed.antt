@@ -23,7 +23,7 @@ use Rattle.filer_state.specs.nodes.Laws.{LosesName}
 use Rattle.filer_state.specs.nodes.lemmas.Others as others
 use Rattle.filer_state.specs.nodes.lemmas.Others.{IsChildOf}
 use Rattle.filer_state.specs.nodes.lemmas.Summed.{total-split, total-set}
-use Rattle.filer_state.specs.nodes.lemmas.Listing.{all-without, removed-is, count-without}
+use Rattle.nfs_model.specs.volume.lemmas.Listing.{all-without, removed-is, count-without}
 
 -- ---- kinds
 

@@ -22,7 +22,7 @@ use Rattle.filer_state.specs.nodes.Laws.{StandsUnder}
 use Rattle.filer_state.specs.nodes.lemmas.Others as others
 use Rattle.filer_state.specs.nodes.lemmas.Others.{IsChildOf}
 use Rattle.filer_state.specs.nodes.lemmas.Summed.{total-set}
-use Rattle.filer_state.specs.nodes.lemmas.Listing.{all-without, removed-is, count-without}
+use Rattle.nfs_model.specs.volume.lemmas.Listing.{all-without, removed-is, count-without}
 use Rattle.filer_state.specs.nodes.lemmas.Unnamed.{parent-kept, counted-less}
 
 -- names are lawful, but that one node has none

@@ -30,7 +30,7 @@ not-found name x list h = by (same_name x.name name) refl h
     by true is e = absurd cc
     by false is e = (is, e)
 
-differ-more : (list : List Listed) (e : Listed) → find_name e.name list ≡ None → NamesDiffer list → NamesDiffer (list ++ e ∷ [])
+pub differ-more : (list : List Listed) (e : Listed) → find_name e.name list ≡ None → NamesDiffer list → NamesDiffer (list ++ e ∷ [])
 differ-more [] e h names = (tt, tt)
 differ-more (x ∷ list) e h names =
     let here = not-found e.name x list h in (
@@ -68,7 +68,7 @@ rises-without name low (x ∷ list) next rises = by (same_name x.name name) (ris
     by true others = rises-weaker (x.cookie + 1) low (without_name name list) next (let h = rises.0 in omega (arith, h)) others
     by false others = (rises.0, others)
 
-differ-without : (name : List ℕ) (list : List Listed) → NamesDiffer list → NamesDiffer (without_name name list)
+pub differ-without : (name : List ℕ) (list : List Listed) → NamesDiffer list → NamesDiffer (without_name name list)
 differ-without name [] names = tt
 differ-without name (x ∷ list) names = by (same_name x.name name) (differ-without name list names.1)
   where
@@ -106,3 +106,17 @@ count-without test name (x ∷ list) e names h = by (same_name x.name name) refl
         let rest = without-first test name x list is names.0 in
         omega (arith, here, rest)
     by false is g others = let rest = others g in omega (arith, rest)
+
+-- an entry that is found stands in the list
+pub count-found : (test : Listed → Bool) (name : List ℕ) (list : List Listed) (e : Listed) → find_name name list ≡ Some e → test e ≡ true
+    → 1 ≤ count test list
+count-found test name [] e h is = absurd cc
+count-found test name (x ∷ list) e h is = by (same_name x.name name) h (count-found test name list e)
+  where
+    by : (b : Bool) → (if b then Some x else find_name name list) ≡ Some e
+        → (find_name name list ≡ Some e → test e ≡ true → 1 ≤ count test list) → 1 ≤ one_if (test x) + count test list
+    by true g others =
+        let same : x ≡ e = cc in
+        let one : one_if (test x) ≡ 1 = ap (λ (y : Listed). one_if (test y)) same ∙ ap one_if is in
+        omega (arith, one)
+    by false g others = let some = others g is in omega (arith, some)
