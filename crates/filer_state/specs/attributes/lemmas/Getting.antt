@@ -39,8 +39,8 @@ module _ (p : VolumeContents) where
     where
       kind : (a : Inode) (k : InodeKind)
           → is_directory_node (Some (node_by p.stripes (get p.logical.directories q) q a.attributes k)) ≡ is_directory (Some (record a { kind = k }))
-      kind a (RegularFile size filled verifier) = refl
       kind a (DirectoryKind parent subdirectories) = refl
+      kind a other = refl
 
       by : (o : Option Inode) → is_directory_node (option_map (node_of p.stripes p.logical.directories q) o) ≡ is_directory o
       by None = refl

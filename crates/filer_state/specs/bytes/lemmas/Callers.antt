@@ -14,7 +14,7 @@ use Rattle.nfs_model.specs.Serial.Starve.{takes_memory}
 use Rattle.nfs_model.specs.Moves.{PartsChange}
 use Rattle.nfs_model.specs.Work.{Outcome, Replied, Starved, Moved}
 use Rattle.nfs_model.specs.Parts.{Hand}
-use Rattle.nfs_model.specs.volume.Inodes.{InodeKind, RegularFile, DirectoryKind, Inode}
+use Rattle.nfs_model.specs.volume.Inodes.{InodeKind, RegularFile, Inode}
 use Rattle.nfs_model.specs.volume.Stripes.{Card}
 use Rattle.filer_state.specs.state.Contents.{VolumeContents}
 use Rattle.filer_state.specs.state.Tree.{node_by, node_of, volume_of}
@@ -97,7 +97,7 @@ seen-owner p f = ap owner_seen (node-at p f) ∙ by (get p.logical.inodes.inodes
   where
     kind : (a : Attributes) (k : InodeKind) → owner_seen (Some (node_by p.stripes (get p.logical.directories f) f a k)) ≡ owner_by a k
     kind a (RegularFile size filled verifier) = refl
-    kind a (DirectoryKind parent subdirectories) = refl
+    kind a other = refl
 
     by : (o : Option Inode) → owner_seen (option_map (node_of p.stripes p.logical.directories f) o) ≡ owner_at o
     by None = refl

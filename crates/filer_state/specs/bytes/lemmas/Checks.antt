@@ -14,7 +14,7 @@ use Rattle.nfs_model.specs.Locate.{Effect, Fails, Tells, Changes, unless, on_fil
 use Rattle.nfs_model.specs.Serial.Setattr.{with_node}
 use Rattle.nfs_model.specs.Serial.Write.{Writing, bytes_kept, need, space_fault, write_some, written_file}
 use Rattle.nfs_model.specs.Work.{Ready, move_by, move_if, ready, ready_bytes}
-use Rattle.nfs_model.specs.volume.Inodes.{InodeKind, RegularFile, DirectoryKind, Inode}
+use Rattle.nfs_model.specs.volume.Inodes.{InodeKind, RegularFile, Inode}
 use Rattle.filer_state.specs.state.Contents.{VolumeContents}
 use Rattle.filer_state.specs.state.Tree.{node_by, node_of, volume_of}
 use Rattle.filer_state.specs.state.Partition.{parts_of}
@@ -173,10 +173,10 @@ module _ (p : VolumeContents) (f : ℕ) (handle : List ℕ) (w : Writing) (node 
       of-kind : (inode : Inode) → get p.logical.inodes.inodes f ≡ Some inode → (kind : InodeKind) → inode.kind ≡ kind
           → Checked (kind_due kind p.logical.largest w)
       of-kind inode there (RegularFile size blocks verifier) is = by-checks inode there size blocks verifier is
-      of-kind inode there (DirectoryKind parent subs) is =
-          no-file (option_map (node_of p.stripes p.logical.directories f) (Some (record inode { kind = DirectoryKind parent subs }))) Invalid
+      of-kind inode there kind is =
+          no-file (option_map (node_of p.stripes p.logical.directories f) (Some (record inode { kind = kind }))) Invalid
           (node-at p f ∙ ap (option_map (node_of p.stripes p.logical.directories f)) there
-          ∙ ap (λ kind. Some (node_by p.stripes (get p.logical.directories f) f inode.attributes kind)) is)
+          ∙ ap (λ k. Some (node_by p.stripes (get p.logical.directories f) f inode.attributes k)) is)
           refl refl
 
       by : (o : Option Inode) → get p.logical.inodes.inodes f ≡ o → Checked (bytes_due o p.logical.largest w)

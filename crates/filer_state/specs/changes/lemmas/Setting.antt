@@ -14,7 +14,7 @@ use Rattle.nfs_model.specs.Serial.Rights.{ownership_of}
 use Rattle.nfs_model.specs.Serial.Setattr.{is_stale_guard, has_bad_time, is_past, resized, set_attributes, set_node, setattr_fault, with_node}
 use Rattle.nfs_model.specs.Moves.{Emptied}
 use Rattle.nfs_model.specs.Parts.{Hand}
-use Rattle.nfs_model.specs.volume.Inodes.{InodeKind, RegularFile, DirectoryKind, Inode}
+use Rattle.nfs_model.specs.volume.Inodes.{InodeKind, RegularFile, Inode}
 use Rattle.nfs_model.specs.volume.Stripes.{OfFile, StripeValue, touch_of}
 use Rattle.nfs_model.specs.volume.lemmas.Inodes.{inode-set-there, inode-set-other, next-set, used-set-same}
 use Rattle.nfs_model.specs.volume.lemmas.Numbered.{get-insert_at, itself}
@@ -50,7 +50,7 @@ module _ (p : VolumeContents) (f : ℕ) (set : SetAttributes) (old : Inode) wher
       by : (kind : InodeKind) → times (node_by p.stripes (get p.logical.directories f) f old.attributes kind)
           ≡ attributes_now (file_touch p.stripes f) old.attributes kind
       by (RegularFile size filled verifier) = refl
-      by (DirectoryKind parent subdirectories) = refl
+      by kind = refl
 
   -- the first check that fails is the serial server's
   pub fault-is : (guard : Option Moment) → setattr_fault (volume_of p) set guard was ≡ node_fault f set guard old (logical_lens.of p)
@@ -59,7 +59,7 @@ module _ (p : VolumeContents) (f : ℕ) (set : SetAttributes) (old : Inode) wher
       by : (kind : InodeKind) → setattr_fault (volume_of p) set guard (node_by p.stripes (get p.logical.directories f) f old.attributes kind)
           ≡ set_fault p.logical.largest set guard (attributes_now (file_touch p.stripes f) old.attributes kind).ctime kind
       by (RegularFile size filled verifier) = refl
-      by (DirectoryKind parent subdirectories) = refl
+      by kind = refl
 
 -- where no check fails
 all-pass : (a b c d : Bool)
@@ -90,7 +90,7 @@ may-size largest size set guard ctime kind asked passes =
 
     by : (k : InodeKind) → is_directory_sized k (Some size) ≡ false → nat_lt largest size ≡ false → MaySize largest size k
     by (RegularFile s n verifier) a b = record { old_size = s; filled = n; verifier = verifier; is_file = refl; small = fits b }
-    by (DirectoryKind parent subdirectories) a b = absurd cc
+    by k a b = absurd cc
 
 -- ---- a node set
 
