@@ -1,13 +1,18 @@
--- What changes an inode's kind: the numbers of a file, or those of a directory. Nothing else has such numbers, and it stays as it is.
-use Rattle.std.specs.Prelude.{ℕ}
+-- What is said of an inode's kind, and what changes it: the numbers of a file, or those of a directory. Nothing else has such numbers,
+-- and it stays as it is.
+use Rattle.std.specs.Prelude.{◌≡◌, ℕ, List, Option}
 use Rattle.nfs_model.specs.volume.Inodes.{InodeKind, RegularFile, DirectoryKind}
 
--- a file of another size, with another number of blocks
-abbrev pub file_changed : (ℕ → ℕ) → (ℕ → ℕ) → InodeKind → InodeKind
-file_changed size_after filled_after (RegularFile size filled verifier) = RegularFile (size_after size) (filled_after filled) verifier
-file_changed size_after filled_after kind = kind
+-- a file's kind, with its size, the number of its blocks and the verifier of its exclusive creation
+abbrev pub IsFile : InodeKind → ℕ → ℕ → Option (List ℕ) → Type 0
+IsFile kind size filled verifier = kind ≡ RegularFile size filled verifier
 
--- a directory with another parent, and another number of subdirectories
+-- a file's size changed, and the number of its blocks
+abbrev pub file_changed : (ℕ → ℕ) → (ℕ → ℕ) → InodeKind → InodeKind
+file_changed f g (RegularFile size filled verifier) = RegularFile (f size) (g filled) verifier
+file_changed f g kind = kind
+
+-- a directory's parent changed, and the number of its subdirectories
 abbrev pub directory_changed : (ℕ → ℕ) → (ℕ → ℕ) → InodeKind → InodeKind
-directory_changed parent_after count_after (DirectoryKind parent subdirectories) = DirectoryKind (parent_after parent) (count_after subdirectories)
-directory_changed parent_after count_after kind = kind
+directory_changed f g (DirectoryKind parent subdirectories) = DirectoryKind (f parent) (g subdirectories)
+directory_changed f g kind = kind

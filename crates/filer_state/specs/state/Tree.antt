@@ -71,7 +71,8 @@ node_with bytes blocks touch entries attributes (DirectoryKind parent subdirecto
 -- a file's size is its inode's, its bytes, blocks and touch are its stripes'
 abbrev pub node_by : List StripeValue → Option DirectoryValue → ℕ → Attributes → InodeKind → Node
 node_by stripes directory fileid attributes kind =
-    node_with (file_bytes stripes fileid) (file_filled stripes fileid) (file_touch stripes fileid) (directory_or_empty directory) attributes kind
+    node_with (file_bytes stripes fileid) (file_filled stripes fileid) (file_touch stripes fileid) (directory_or_empty directory)
+    attributes kind
 
 -- the node of an inode
 abbrev pub node_of : List StripeValue → FinMap nat_cmp DirectoryValue → ℕ → Inode → Node

@@ -5,7 +5,7 @@ use Rattle.std.specs.Option.{option_map}
 use Rattle.std.specs.FinMap.{get}
 use Rattle.nfs_model.specs.Types.{Answer, Call, Caller, Ownership, Status, Success, Failed}
 use Rattle.nfs_model.specs.Tree.{Affinity}
-use Rattle.nfs_model.specs.Server.{Attributes, Node, File, Directory, VolumeState}
+use Rattle.nfs_model.specs.Server.{Attributes, Node, File, VolumeState}
 use Rattle.nfs_model.specs.Locate.{Effect, Fails}
 use Rattle.nfs_model.specs.Serial.Absent.{absent_parts}
 use Rattle.nfs_model.specs.Serial.Rights.{Protection, ownership_of}
@@ -84,12 +84,12 @@ module _ (call : Call) (node : Affinity) (fileid : ℕ) (one two : Caller) (run 
 abbrev pub owner_seen : Option Node → Option Ownership
 owner_seen None = None
 owner_seen (Some (File g)) = Some (ownership_of g.attributes)
-owner_seen (Some (Directory d)) = None
+owner_seen (Some node) = None
 
 pub asked-seen : (x : Option Node) (ask : Protection → Option Status) → of_file x ask ≡ of_owner (owner_seen x) ask
 asked-seen None ask = refl
 asked-seen (Some (File g)) ask = refl
-asked-seen (Some (Directory d)) ask = refl
+asked-seen (Some node) ask = refl
 
 -- the node's is the inode's
 pub seen-owner : (p : VolumeContents) (f : ℕ) → owner_seen (get (volume_of p).nodes f) ≡ owner_at (get p.logical.inodes.inodes f)

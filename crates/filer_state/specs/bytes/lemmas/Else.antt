@@ -6,12 +6,13 @@ use Rattle.std.specs.Option.{option_map}
 use Rattle.std.specs.FinMap.{get, insert}
 use Rattle.nfs_model.specs.Server.{Node, VolumeState}
 use Rattle.nfs_model.specs.Serial.Setattr.{with_node}
-use Rattle.nfs_model.specs.volume.Inodes.{RegularFile, Inode}
+use Rattle.nfs_model.specs.volume.Inodes.{Inode}
 use Rattle.nfs_model.specs.volume.Stripes.{StripeValue}
 use Rattle.nfs_model.specs.volume.lemmas.Inodes.{inode-set-other, next-set}
 use Rattle.nfs_model.specs.volume.lemmas.Numbered.{get-insert_at, insert-twice, insert-same, same-answers}
 use Rattle.filer_state.specs.state.Contents.{VolumeContents}
 use Rattle.filer_state.specs.state.Tree.{directory_or_empty, node_with, node_of, volume_of}
+use Rattle.filer_state.specs.state.Kinds.{IsFile}
 use Rattle.filer_state.specs.state.WellFormed.{WellFormed}
 use Rattle.filer_state.specs.attributes.lemmas.Getting.{node-at}
 use Rattle.filer_state.specs.bytes.lemmas.Refiled.{Refiles, refiled, next_inode, byte-other, filled-other, touch-other}
@@ -29,7 +30,7 @@ pub put-same : (v : VolumeState) (f : ℕ) (x : Node) → get v.nodes f ≡ Some
 put-same v f x there = λ j. record v { nodes = sym (insert-same v.nodes f x there) j }
 
 module _ (p : VolumeContents) (f : ℕ) (inode : Inode) (old_size blocks : ℕ) (verifier : Option (List ℕ)) (size more : ℕ) (stripes : List StripeValue)
-    (there : get p.logical.inodes.inodes f ≡ Some inode) (is_file : inode.kind ≡ RegularFile old_size blocks verifier)
+    (there : get p.logical.inodes.inodes f ≡ Some inode) (is_file : IsFile inode.kind old_size blocks verifier)
     (well : WellFormed p) (small : size ≤ p.logical.largest) (new : Refiles p f size more stripes) where
   abbrev next : Inode
   next = next_inode inode size (blocks + more) verifier

@@ -6,7 +6,7 @@ use Rattle.std.specs.List.{range_with_len}
 use Rattle.std.specs.FinMap.{get}
 use Rattle.std.proofs.lemmas.List.FromFn.{length-map-range_with_len}
 use Rattle.nfs_model.specs.Types.{Answer, ReadDone}
-use Rattle.nfs_model.specs.Server.{FileNode, Node, File, Directory, VolumeState, most_bytes}
+use Rattle.nfs_model.specs.Server.{FileNode, Node, File, VolumeState, most_bytes}
 use Rattle.nfs_model.specs.Locate.{Effect, Tells, on_file}
 use Rattle.nfs_model.specs.Serial.Read.{bytes_at, read_of, read}
 use Rattle.nfs_model.specs.volume.Inodes.{InodeKind, RegularFile, Inode}
@@ -96,4 +96,4 @@ read-stays volume fileid offset count = by (get volume.nodes fileid)
     by : (o : Option Node) → volume ≡ volume_left volume (on_file o (λ f. reads offset (min count most_bytes) f.bytes))
     by None = refl
     by (Some (File f)) = told f.bytes (nat_le (length f.bytes) offset)
-    by (Some (Directory d)) = refl
+    by (Some node) = refl

@@ -19,6 +19,7 @@ use Rattle.nfs_model.specs.volume.Stripes.{Card, OfFile, OfDirectory, StripeValu
 use Rattle.filer_state.specs.state.Contents.{VolumeContents}
 use Rattle.filer_state.specs.state.Tree.{stripe_at, node_by, node_of, volume_of}
 use Rattle.filer_state.specs.state.Names.{size_in}
+use Rattle.filer_state.specs.state.Kinds.{IsFile}
 use Rattle.filer_state.specs.state.WellFormed.{StripeFits, size_shown}
 use Rattle.filer_state.specs.state.Partition.{parts_of, times_in_hand}
 use Rattle.filer_state.specs.state.Sound.{IsSound}
@@ -72,7 +73,7 @@ module _ (p : VolumeContents) (i f : ℕ) (handle : List ℕ) (w : Writing) (han
   -- ---- a file
 
   module _ (inode : Inode) (there : get p.logical.inodes.inodes f ≡ Some inode) (size blocks : ℕ) (verifier : Option (List ℕ))
-      (is_file : inode.kind ≡ RegularFile size blocks verifier) (touch : Option Moment) (owner : Ownership)
+      (is_file : IsFile inode.kind size blocks verifier) (touch : Option Moment) (owner : Ownership)
       (card : get s.cards f ≡ Some (OfFile size touch owner)) where
     abbrev file : FileNode
     file = file_before p f inode size verifier

@@ -7,7 +7,7 @@ use Rattle.std.specs.Ordering.{nat_cmp}
 use Rattle.std.specs.FinMap.{FinMap, get, insert}
 use Rattle.nfs_model.specs.Types.{Moment, Caller, Listed, SetAttributes, CreateMode, Unchecked, Guarded, Exclusive, Status, MadeDone, Exists}
 use Rattle.nfs_model.specs.Tree.{Affinity}
-use Rattle.nfs_model.specs.Server.{Node, File, Directory, handle_bytes}
+use Rattle.nfs_model.specs.Server.{Node, Directory, handle_bytes}
 use Rattle.nfs_model.specs.Shown.{shown, before_of, subdirectories, is_directory_node}
 use Rattle.nfs_model.specs.Locate.{Effect, Fails, Tells, unless, Naming}
 use Rattle.nfs_model.specs.Serial.Setattr.{set_node, setattr_fault, with_node}
@@ -36,8 +36,8 @@ use Rattle.filer_state.specs.changes.lemmas.Making.{SaysNothing, failure-right}
 
 set-directory : (set : SetAttributes) (moment : Moment) (node : Node)
     → is_directory_node (Some (set_node set moment node)) ≡ is_directory_node (Some node)
-set-directory set moment (File g) = refl
 set-directory set moment (Directory d) = refl
+set-directory set moment node = refl
 
 module _ (nodes : FinMap nat_cmp Node) (f : ℕ) (old new : Node) (there : get nodes f ≡ Some old)
     (same : is_directory_node (Some new) ≡ is_directory_node (Some old)) where
@@ -156,10 +156,9 @@ module _ (handle : List ℕ) (node : Affinity) (mode : CreateMode) (caller : Cal
 
   by-kind : (asked : CreateMode) (kind : InodeKind) → child.inode.kind ≡ kind → Right (create_existing h asked caller child kind)
       (create_over n asked caller child.fileid (node_by p.stripes (get p.logical.directories child.fileid) child.fileid child.inode.attributes kind))
-  by-kind (Guarded set) (RegularFile size filled verifier) is = failure Exists
+  by-kind (Guarded set) kind is = failure Exists
   by-kind (Exclusive verifier) (RegularFile size filled kept) is =
-      let seen : was ≡ node_by p.stripes (get p.logical.directories child.fileid) child.fileid child.inode.attributes (RegularFile size filled kept) =
-      ap (node_by p.stripes (get p.logical.directories child.fileid) child.fileid child.inode.attributes) is in
+      let seen = ap child_of is in
       subst (λ (x : Node). Right (if is_verifier kept verifier then there_shown h child else fails Exists (logical_lens.of p))
       (if is_verifier kept verifier then Tells (there_told n (volume_of p) (record { fileid = child.fileid; node = x })) else Fails Exists)) seen
       (by-verifier (is_verifier kept verifier))

@@ -1,6 +1,7 @@
 -- A node made under a name by what is under Logical, beside the serial server.
-use Rattle.std.proofs.Common.{◌≡◌, ℕ, ◌+◌, ◌*◌, ◌<◌, List, [], ◌∷◌, ◌++◌, length, map, replicate, None}
-use Rattle.std.proofs.Common.{refl, sym, ap, ◌∙◌}
+use Rattle.std.proofs.Common.{◌≡◌, ℕ, ◌+◌, ◌<◌, List, [], ◌∷◌, ◌++◌, map, replicate, None}
+use Rattle.std.proofs.Common.{refl, sym, ap, ◌∙◌, subst}
+use Rattle.std.specs.Prelude.{IfSome}
 use Rattle.std.proofs.lemmas.List.{length-replicate}
 use Rattle.std.specs.Ordering.{nat_cmp}
 use Rattle.std.specs.FinMap.{len}
@@ -8,15 +9,15 @@ use Rattle.std.specs.FinSet as sets
 use Rattle.std.specs.FinSet.{from_list}
 use Rattle.nfs_model.specs.Types.{Moment, Status, MadeDone, Ownership}
 use Rattle.nfs_model.specs.Serial.Rights.{ownership_of}
-use Rattle.nfs_model.specs.Server.{Directory, VolumeState, block_size, handle_bytes, used}
+use Rattle.nfs_model.specs.Server.{Directory, VolumeState, handle_bytes, used}
 use Rattle.nfs_model.specs.Shown.{shown, before_of}
 use Rattle.nfs_model.specs.Locate.{Fails, Naming}
 use Rattle.nfs_model.specs.Serial.Create as creating
 use Rattle.nfs_model.specs.Serial.Create.{with_child, directory_made}
 use Rattle.nfs_model.specs.Parts.{Hand}
 use Rattle.nfs_model.specs.Moves.{Stored, PartsChange}
-use Rattle.nfs_model.specs.volume.Directories.{added, found}
-use Rattle.nfs_model.specs.volume.Inodes.{InodeKind, RegularFile, DirectoryKind, Inode}
+use Rattle.nfs_model.specs.volume.Directories.{empty_directory, added, found}
+use Rattle.nfs_model.specs.volume.Inodes.{InodeKind, Inode}
 use Rattle.nfs_model.specs.volume.Stripes.{StripeValue}
 use Rattle.filer_state.specs.state.Contents.{VolumeContents}
 use Rattle.filer_state.specs.state.Tree.{directory_or_empty, volume_of}
@@ -24,8 +25,9 @@ use Rattle.filer_state.specs.state.Partition.{parts_of, stored, numbers_in, all_
 use Rattle.filer_state.specs.state.Sound.{IsSound}
 use Rattle.filer_state.specs.state.Lenses.{logical_lens}
 use Rattle.filer_state.specs.state.Calls.{VolumeCall}
-use Rattle.filer_state.specs.state.Changes.{shown_kind, shown_inode}
+use Rattle.filer_state.specs.state.Changes.{shown_inode}
 use Rattle.filer_state.specs.laws.lemmas.Counted.{used-is}
+use Rattle.filer_state.specs.laws.lemmas.InodeKinds.{shown-with}
 use Rattle.filer_state.specs.laws.lemmas.SameBlocks.{total-mapped}
 use Rattle.filer_state.specs.laws.lemmas.Steps.{sound-later}
 use Rattle.filer_state.specs.names.Answers.{entries_of, directory_node}
@@ -48,18 +50,9 @@ SaysNothing c = (old new : Stored) → used new.volume ≡ used old.volume → n
 -- as it is shown
 child-shown : (volume : VolumeState) (f directory largest : ℕ) (child : Inode) → IsNewIn directory largest child.kind
     → shown volume f (new_node child) ≡ shown_inode volume.number f child None
-child-shown volume f directory largest child is_new = by child.kind is_new
-  where
-    by : (kind : InodeKind) → IsNewIn directory largest kind
-        → shown volume f (new_node (record child { kind = kind })) ≡ shown_kind volume.number f child.attributes kind None
-    by (RegularFile size filled verifier) h =
-        let long : length (replicate size 0) ≡ size = length-replicate size 0 in
-        let none : sets.len (sets.empty {R = nat_cmp}) ≡ filled = sets.len-empty nat_cmp ∙ sym h.blocks in
-        λ j. record (shown_kind volume.number f child.attributes (RegularFile size filled verifier) None) {
-          size = long j;
-          used = block_size * none j;
-        }
-    by (DirectoryKind up n) h = λ j. record (shown_kind volume.number f child.attributes (DirectoryKind up n) None) { links = 2 + sym h.alone j }
+child-shown volume f directory largest child is_new = shown-with volume f (λ size. replicate size 0) sets.empty None empty_directory child.attributes
+    (λ size. length-replicate size 0) child.kind (is_new.blocks ∙ sym (sets.len-empty nat_cmp))
+    (λ subs says. sym (subst (λ o. IfSome o (λ n. n ≡ 0)) says is_new.alone))
 
 -- a card moves no block
 numbers-stay : (owner : Ownership) (k : InodeKind) (f : ℕ) (stripes : List StripeValue)

@@ -21,6 +21,7 @@ use Rattle.nfs_model.specs.volume.lemmas.Inodes.{inode-set-there, inode-set-othe
 use Rattle.filer_state.specs.state.Contents.{VolumeContents}
 use Rattle.filer_state.specs.state.Tree.{file_filled, node_by, node_of, volume_of}
 use Rattle.filer_state.specs.state.Names.{is_directory, size_in, parent_in}
+use Rattle.filer_state.specs.state.Kinds.{IsFile}
 use Rattle.filer_state.specs.state.Partition.{parts_of}
 use Rattle.filer_state.specs.state.Sound.{IsSound}
 use Rattle.filer_state.specs.state.Lenses.{LogicalSet, logical_lens}
@@ -46,7 +47,7 @@ use Rattle.filer_state.specs.changes.lemmas.Gone.{remove-put, none-before, gone-
 
 module _ (p : VolumeContents) (fileid : ℕ) (name : List ℕ) (moment : Moment) (inode : Inode) (parent : ℕ)
     (here : IsDirectoryHere p fileid name moment inode parent) (child : HeldNode) (under : IsChildHere p fileid name child)
-    (size filled : ℕ) (verifier : Option (List ℕ)) (is_file : child.inode.kind ≡ RegularFile size filled verifier)
+    (size filled : ℕ) (verifier : Option (List ℕ)) (is_file : IsFile child.inode.kind size filled verifier)
     (hands : List Hand) (made : ℕ) (sound : IsSound p hands made) where
   abbrev f : ℕ
   f = child.fileid

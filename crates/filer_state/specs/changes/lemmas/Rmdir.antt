@@ -49,7 +49,7 @@ module _ (fileid : ℕ) (handle name : List ℕ) (node : Affinity) (moment : Mom
         abbrev m : Dropping
         m = dropping_of held child
 
-        module _ (up below : ℕ) (is : child.inode.kind ≡ DirectoryKind up below) where
+        module _ (empty : IsEmptyKind child.inode.kind) where
           loses : (entries_of p.logical child.fileid).list ≡ [] → LosesName m p.logical.inodes p.logical.directories
           loses none = record {
             there = here.there;
@@ -58,7 +58,7 @@ module _ (fileid : ℕ) (handle name : List ℕ) (node : Affinity) (moment : Mom
             found_there = under.found_there;
             is = under.is;
             node = under.node;
-            kind = subst IsEmptyKind (sym is) (tt, refl);
+            kind = empty;
             empty = λ d e. ap (λ o. (directory_or_empty o).list) (sym e) ∙ none;
           }
 
@@ -72,7 +72,7 @@ module _ (fileid : ℕ) (handle name : List ℕ) (node : Affinity) (moment : Mom
         by-kind : (kind : InodeKind) → child.inode.kind ≡ kind
             → Right (rmdir_kind held child kind)
             (rmdir_node seen child.fileid (node_by p.stripes (get p.logical.directories child.fileid) child.fileid child.inode.attributes kind))
-        by-kind (DirectoryKind up below) is = by-entries up below is (entries_of p.logical child.fileid).list refl
+        by-kind (DirectoryKind up below) is = by-entries (subst IsEmptyKind (sym is) (tt, refl)) (entries_of p.logical child.fileid).list refl
         by-kind kind is = failure _
 
       by-dots : (a b : Bool)

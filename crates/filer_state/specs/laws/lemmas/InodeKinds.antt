@@ -1,20 +1,23 @@
 -- What follows of an inode's kind from what it has, a size or a parent, and what stays where its numbers change. Lemmas of nodes and of
 -- calls go by these, and not by each kind.
-use Rattle.std.proofs.Common.{◌≡◌, ℕ, List, Option, Some, None, refl, ap, ◌∙◌}
+use Rattle.std.proofs.Common.{◌≡◌, ℕ, ◌+◌, ◌*◌, true, List, length, Option, Some, None, refl, sym, ap, ◌∙◌}
 use Rattle.std.specs.Prelude.{is_some}
 use Rattle.std.specs.Option.{option_map}
+use Rattle.std.specs.Ordering.{nat_cmp}
+use Rattle.std.specs.FinSet.{FinSet}
+use Rattle.std.specs.FinSet as sets
 use Rattle.nfs_model.specs.Types.{Moment}
-use Rattle.nfs_model.specs.Server.{Attributes, Directory}
-use Rattle.nfs_model.specs.Shown.{effective_attributes}
+use Rattle.nfs_model.specs.Server.{Attributes, Directory, VolumeState, block_size}
+use Rattle.nfs_model.specs.Shown.{effective_attributes, shown, subdirectories}
 use Rattle.nfs_model.specs.Serial.Rights.{ownership_of}
 use Rattle.nfs_model.specs.volume.Directories.{DirectoryValue}
 use Rattle.nfs_model.specs.volume.Inodes.{InodeKind, RegularFile, DirectoryKind, filled_blocks}
 use Rattle.nfs_model.specs.volume.Stripes.{StripeValue}
-use Rattle.filer_state.specs.state.Tree.{directory_or_empty, node_by}
+use Rattle.filer_state.specs.state.Tree.{directory_or_empty, node_with, node_by}
 use Rattle.filer_state.specs.state.Names.{size_in, parent_in, subdirectories_in}
 use Rattle.filer_state.specs.state.Kinds.{directory_changed}
 use Rattle.filer_state.specs.state.WellFormed.{owner_by}
-use Rattle.filer_state.specs.state.Changes.{attributes_now}
+use Rattle.filer_state.specs.state.Changes.{attributes_now, shown_kind}
 
 -- ---- what it is, by what it has
 
@@ -39,6 +42,23 @@ directory-seen stripes o q a k parent says = ap (node_by stripes o q a) (directo
 -- it has no touch
 pub directory-untouched : (touch : Option Moment) (a : Attributes) (k : InodeKind) (parent : ℕ) → parent_in k ≡ Some parent → attributes_now touch a k ≡ a
 directory-untouched touch a k parent says = ap (attributes_now touch a) (directory-is k parent says).1
+
+-- what counts subdirectories is a directory
+pub counted-directory : (k : InodeKind) (n : ℕ) → subdirectories_in k ≡ Some n → is_some (parent_in k) ≡ true
+counted-directory (DirectoryKind up subs) n says = refl
+counted-directory kind n says = absurd cc
+
+-- ---- as it is shown
+
+-- a node is shown by its inode, where its bytes are as many as its size, its blocks and subdirectories as many as its inode counts
+pub shown-with : (volume : VolumeState) (q : ℕ) (bytes : ℕ → List ℕ) (blocks : FinSet nat_cmp) (touch : Option Moment) (d : DirectoryValue)
+    (a : Attributes) → ((size : ℕ) → length (bytes size) ≡ size) → (k : InodeKind) → filled_blocks k ≡ sets.len blocks
+    → ((subs : ℕ) → subdirectories_in k ≡ Some subs → subdirectories volume.nodes d.list ≡ subs)
+    → shown volume q (node_with bytes blocks touch d a k) ≡ shown_kind volume.number q a k touch
+shown-with volume q bytes blocks touch d a long (RegularFile size filled verifier) many counted =
+    λ j. record (shown_kind volume.number q a (RegularFile size filled verifier) touch) { size = long size j; used = block_size * sym many j }
+shown-with volume q bytes blocks touch d a long (DirectoryKind parent subs) many counted =
+    λ j. record (shown_kind volume.number q a (DirectoryKind parent subs) touch) { links = 2 + counted subs refl j }
 
 -- ---- the owner
 

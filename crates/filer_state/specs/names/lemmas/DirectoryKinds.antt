@@ -3,7 +3,7 @@ use Rattle.std.proofs.Common.{◌≡◌, ℕ, Some, None, Option, refl, sym, ap,
 use Rattle.std.specs.Option.{option_map}
 use Rattle.std.specs.FinMap.{get}
 use Rattle.nfs_model.specs.Types.{Moment, Answer}
-use Rattle.nfs_model.specs.Server.{DirectoryNode, Node, File, Directory, VolumeState}
+use Rattle.nfs_model.specs.Server.{DirectoryNode, Node, Directory, VolumeState}
 use Rattle.nfs_model.specs.Locate.{Effect, on_directory}
 use Rattle.nfs_model.specs.Shown.{shown}
 use Rattle.nfs_model.specs.volume.Inodes.{InodeKind, DirectoryKind, Inode}
@@ -21,8 +21,8 @@ use Rattle.filer_state.specs.state.Names.{parent_in}
 pub directory-stays : (volume : VolumeState) (o : Option Node) (run : DirectoryNode → Effect)
     → ((d : DirectoryNode) → volume ≡ volume_left volume (run d)) → volume ≡ volume_left volume (on_directory o run)
 directory-stays volume None run stays = refl
-directory-stays volume (Some (File f)) run stays = refl
 directory-stays volume (Some (Directory d)) run stays = stays d
+directory-stays volume (Some node) run stays = refl
 
 -- a directory shows no touch
 pub same-shown : (v fileid : ℕ) (inode : Inode) (parent : ℕ) → parent_in inode.kind ≡ Some parent → (touch : Option Moment)

@@ -86,7 +86,7 @@ file-stays : (volume : VolumeState) (fileid : ℕ) (o : Option Node)
     → volume ≡ volume_left volume (on_file o (λ f. Tells (CommitDone (wcc volume fileid (File f) volume (File f)) volume.verifier)))
 file-stays volume fileid None = refl
 file-stays volume fileid (Some (File f)) = refl
-file-stays volume fileid (Some (Directory d)) = refl
+file-stays volume fileid (Some node) = refl
 
 module _ (p : VolumeContents) (well : WellFormed p) (fileid : ℕ) where
   abbrev commits : FileNode → Effect

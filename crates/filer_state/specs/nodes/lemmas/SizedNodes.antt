@@ -16,7 +16,7 @@ use Rattle.std.specs.FinSet.{contains, retain, contains-retain}
 use Rattle.nfs_model.specs.Server.{Node, File, FileNode, block_size}
 use Rattle.nfs_model.specs.Serial.Rights.{ownership_of}
 use Rattle.nfs_model.specs.Serial.Setattr.{resized_bytes, with_node}
-use Rattle.nfs_model.specs.volume.Inodes.{RegularFile, Inode, InodesValue, inode_of}
+use Rattle.nfs_model.specs.volume.Inodes.{Inode, InodesValue, inode_of}
 use Rattle.nfs_model.specs.volume.Stripes.{OfFile, Block, StripeValue, byte_of, byte_cut, block_mapped, touch_of, stripe_of, is_filled}
 use Rattle.nfs_model.specs.volume.lemmas.Inodes.{inode-set-there, inode-set-other, next-set}
 use Rattle.nfs_model.specs.volume.lemmas.Maps.{get-map_values}
@@ -25,6 +25,7 @@ use Rattle.filer_state.specs.state.Contents.{VolumeContents}
 use Rattle.filer_state.specs.state.Tree.{stripe_at, home_stripe, file_byte, file_bytes, file_filled, file_touch, later, most_file_blocks, node_by, node_of}
 use Rattle.filer_state.specs.state.Tree.{directory_or_empty, node_with, volume_of}
 use Rattle.filer_state.specs.state.Names.{size_of, size_in}
+use Rattle.filer_state.specs.state.Kinds.{IsFile}
 use Rattle.filer_state.specs.state.WellFormed.{WellFormed}
 use Rattle.filer_state.specs.laws.lemmas.SameBlocks.{stripe-mapped}
 use Rattle.filer_state.specs.nodes.Sizing.{Sizing, stripe_sized, all_freed, kind_sized, inode_sized}
@@ -79,7 +80,7 @@ resized-range g h old size same none =
 -- ---- the volume after it
 
 module _ (p : VolumeContents) (m : Sizing) (well : WellFormed p) (there : get p.logical.inodes.inodes m.fileid ≡ Some m.inode)
-    (old_size filled : ℕ) (verifier : Option (List ℕ)) (is_file : m.inode.kind ≡ RegularFile old_size filled verifier)
+    (old_size filled : ℕ) (verifier : Option (List ℕ)) (is_file : IsFile m.inode.kind old_size filled verifier)
     (small : m.size ≤ p.logical.largest) where
   abbrev f : ℕ
   f = m.fileid
