@@ -71,9 +71,9 @@ if_empty (e ∷ es) s done = fails NotEmpty s
 
 -- a file is NOTDIR
 abbrev pub rmdir_kind : HeldNaming → HeldNode → InodeKind → LogicalAnswer
-rmdir_kind n child (RegularFile size filled verifier) = fails NotDirectory n.set
 rmdir_kind n child (DirectoryKind parent subdirectories) =
     if_empty (entries_of n.set.own child.fileid).list n.set (held_gone n child n.set)
+rmdir_kind n child kind = fails NotDirectory n.set
 
 -- by whether the name is there
 abbrev pub rmdir_by : HeldNaming → Option HeldNode → LogicalAnswer

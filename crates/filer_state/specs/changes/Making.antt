@@ -84,16 +84,15 @@ over_set n set child =
     (there_set n child.fileid (node_changed child.fileid set n.moment child.inode n.set))
 
 -- the name is there: GUARDED is EXIST; EXCLUSIVE answers a file of the same verifier; UNCHECKED sets a file, where callers are checked
--- its size alone
+-- its size alone; what is no file is EXIST
 abbrev pub create_existing : HeldNaming → CreateMode → Caller → HeldNode → InodeKind → LogicalAnswer
 create_existing n (Guarded set) caller child kind = fails Exists n.set
-create_existing n (Unchecked set) caller child (DirectoryKind parent subdirectories) = fails Exists n.set
-create_existing n (Exclusive verifier) caller child (DirectoryKind parent subdirectories) = fails Exists n.set
 create_existing n (Exclusive verifier) caller child (RegularFile size filled kept) =
     if is_verifier kept verifier then there_shown n child else fails Exists n.set
 create_existing n (Unchecked set) caller child (RegularFile size filled kept) =
     if caller.checked && is_none set.size then there_shown n child
     else over_set n (taken_of caller (over_taken caller set) child.inode) child
+create_existing n mode caller child kind = fails Exists n.set
 
 -- by whether the name is there
 abbrev pub create_by : HeldNaming → CreateMode → Caller → Option HeldNode → LogicalAnswer

@@ -54,19 +54,19 @@ climbs (suc n) inodes target fileid =
 
 -- what is met above the directory into which a node comes; nothing is asked where it stays in its directory, and a file is above nothing
 abbrev pub held_above : HeldRenaming → ℕ → InodeKind → Climb
-held_above r fileid (RegularFile size filled verifier) = PastIt
 held_above r fileid (DirectoryKind parent subdirectories) =
     if r.from.fileid == r.to.fileid then PastIt
     else climbs r.from.set.own.most_steps r.from.set.own.inodes.inodes fileid r.to.fileid
+held_above r fileid kind = PastIt
 
 -- ---- the target
 
 -- a node may take another's place: both are files, or both are directories and the other is empty
 abbrev pub may_replace : LogicalSet → InodeKind → ℕ → InodeKind → Bool
-may_replace s (RegularFile size filled verifier) target (RegularFile size' filled' verifier') = true
-may_replace s (RegularFile size filled verifier) target (DirectoryKind parent subdirectories) = false
-may_replace s (DirectoryKind parent subdirectories) target (RegularFile size filled verifier) = false
 may_replace s (DirectoryKind parent subdirectories) target (DirectoryKind parent' subdirectories') = is_empty_list (entries_of s.own target).list
+may_replace s (DirectoryKind parent subdirectories) target kind = false
+may_replace s moved target (DirectoryKind parent subdirectories) = false
+may_replace s moved target kind = true
 
 -- the target may go, if there is one
 abbrev pub target_may_go : LogicalSet → HeldNode → Option HeldNode → Bool
@@ -77,7 +77,7 @@ target_may_go s moved (Some target) = may_replace s moved.inode.kind target.file
 abbrev pub target_dropped : HeldNaming → HeldNode → InodeKind → LogicalSet
 target_dropped to target (RegularFile size filled verifier) =
     node_dropped (dropping_of to (child_emptied target to.set)) (file_sized (emptying_of target) to.set)
-target_dropped to target (DirectoryKind parent subdirectories) = node_dropped (dropping_of to target) to.set
+target_dropped to target kind = node_dropped (dropping_of to target) to.set
 
 -- the set without the target, if there is one
 abbrev pub target_gone : HeldNaming → Option HeldNode → LogicalSet
@@ -148,8 +148,8 @@ held_rename r =
 
 -- NOTDIR for a file
 abbrev pub if_directory : InodeKind → LogicalSet → LogicalAnswer → LogicalAnswer
-if_directory (RegularFile size filled verifier) s done = fails_both NotDirectory s
 if_directory (DirectoryKind parent subdirectories) s done = done
+if_directory kind s done = fails_both NotDirectory s
 
 -- STALE where there is no node, NOTDIR for a file
 abbrev pub on_directory_inode : Option Inode → LogicalSet → (Inode → LogicalAnswer) → LogicalAnswer

@@ -90,7 +90,7 @@ readdir_answer v fileid cookie verifier count s = on_directory_inode (get s.own.
 abbrev pub file_committed : Shown → List ℕ → InodeKind → Answer
 file_committed shown verifier (RegularFile size filled of_creation) =
     CommitDone (record { before = before_of shown; after = shown }) verifier
-file_committed shown verifier (DirectoryKind parent subdirectories) = Failed Invalid 2
+file_committed shown verifier kind = Failed Invalid 2
 
 abbrev pub inode_committed : ℕ → ℕ → LogicalSet → Option Inode → Answer
 inode_committed v fileid s None = Failed Stale 2
@@ -143,8 +143,8 @@ readdirplus_answer v fileid cookie verifier names_count count caller s = on_dire
 
 -- an answer where there is a directory; STALE, or NOTDIR for a file
 abbrev pub by_directory_kind : InodeKind → Answer → Answer
-by_directory_kind (RegularFile size filled of_creation) answer = Failed NotDirectory 0
 by_directory_kind (DirectoryKind parent subdirectories) answer = answer
+by_directory_kind kind answer = Failed NotDirectory 0
 
 abbrev pub in_directory : Option Inode → Answer → Answer
 in_directory None answer = Failed Stale 0

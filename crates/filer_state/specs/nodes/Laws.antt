@@ -1,6 +1,6 @@
 -- What a node made under a name, and a node dropped with its name, come to on a sound volume (RFC 1813 sections 3.3.8, 3.3.9, 3.3.12
 -- and 3.3.13).
-use Rattle.std.specs.Prelude.{◌≡◌, ℕ, ◌+◌, ◌-◌, ◌*◌, ◌<◌, ◌≤◌, ◌==◌, nat_lt, false, List, [], replicate, Option, Some, None}
+use Rattle.std.specs.Prelude.{◌≡◌, ℕ, ◌+◌, ◌-◌, ◌*◌, ◌<◌, ◌≤◌, ◌==◌, nat_lt, false, List, [], replicate, Option, Some, None, IfSome}
 use Rattle.std.specs.FinMap.{get, len, insert, remove}
 use Rattle.std.specs.FinSet as sets
 use Rattle.std.specs.FinSet.{retain}
@@ -11,11 +11,11 @@ use Rattle.nfs_model.specs.Moves.{Emptied}
 use Rattle.nfs_model.specs.Names.{with_name, dropped_name}
 use Rattle.nfs_model.specs.Parts.{Hand}
 use Rattle.depot_rule.specs.Sums.{total}
-use Rattle.nfs_model.specs.volume.Directories.{DirectoryValue, found}
-use Rattle.nfs_model.specs.volume.Inodes.{InodeKind, RegularFile, DirectoryKind, Inode, InodesValue, inode_of}
+use Rattle.nfs_model.specs.volume.Directories.{DirectoryValue, empty_directory, found}
+use Rattle.nfs_model.specs.volume.Inodes.{InodeKind, RegularFile, Inode, InodesValue, filled_blocks, inode_of}
 use Rattle.filer_state.specs.state.Contents.{VolumeContents}
-use Rattle.filer_state.specs.state.Tree.{file_bytes, file_filled, file_touch, node_of, volume_of}
-use Rattle.filer_state.specs.state.Names.{DirectoryMap, root, directory_above, parent_in}
+use Rattle.filer_state.specs.state.Tree.{file_bytes, file_filled, file_touch, node_with, node_of, volume_of}
+use Rattle.filer_state.specs.state.Names.{DirectoryMap, root, directory_above, size_in, parent_in, subdirectories_in}
 use Rattle.filer_state.specs.state.Partition.{parts_of, times_in_hand}
 use Rattle.filer_state.specs.state.Sound.{IsSound}
 use Rattle.filer_state.specs.state.Lenses.{LogicalSet, logical_lens}
@@ -39,9 +39,11 @@ seen_directory inode d parent = record { attributes = inode.attributes; parent =
 -- ---- made
 
 -- a new file has no block, and is no larger than the largest; a new directory has the other as its parent, and no subdirectory
-abbrev pub IsNewIn : ℕ → ℕ → InodeKind → Type 0
-IsNewIn directory largest (RegularFile size filled verifier) = (filled ≡ 0) × (size ≤ largest)
-IsNewIn directory largest (DirectoryKind parent subdirectories) = (parent ≡ directory) × (subdirectories ≡ 0)
+pub record IsNewIn (directory largest : ℕ) (kind : InodeKind) : Type 0 where
+  pub blocks : filled_blocks kind ≡ 0
+  pub size : IfSome (size_in kind) (λ size. size ≤ largest)
+  pub parent : IfSome (parent_in kind) (λ parent. parent ≡ directory)
+  pub alone : IfSome (subdirectories_in kind) (λ subdirectories. subdirectories ≡ 0)
 
 -- what has to be so of a node to be made: the directory is there, the name isn't, and an inode is left
 pub record MayBeMade (m : Making) (p : VolumeContents) : Type 0 where
@@ -52,13 +54,8 @@ pub record MayBeMade (m : Making) (p : VolumeContents) : Type 0 where
   pub is_new : IsNewIn m.directory p.logical.largest m.made.kind
 
 -- a new node as it is seen: a file of zeros without blocks, or a directory without entries
-abbrev pub node_by_kind : Attributes → InodeKind → Node
-node_by_kind a (RegularFile size filled verifier) =
-    File (record { attributes = a; bytes = replicate size 0; filled = sets.empty; touch = None; verifier = verifier })
-node_by_kind a (DirectoryKind parent subdirectories) = Directory (record { attributes = a; parent = parent; next = 3; list = [] })
-
 abbrev pub new_node : Inode → Node
-new_node inode = node_by_kind inode.attributes inode.kind
+new_node inode = node_with (λ size. replicate size 0) sets.empty None empty_directory inode.attributes inode.kind
 
 -- all stays sound, and the volume that is seen has the node under the next fileid, and the entry
 abbrev pub NodesAreMade : Type 0
@@ -75,8 +72,7 @@ NodesAreMade = (p : VolumeContents) (m : Making) (hands hands' : List Hand) (mad
 
 -- a file of no bytes and no blocks, or a directory
 abbrev pub IsEmptyKind : InodeKind → Type 0
-IsEmptyKind (RegularFile size filled verifier) = (size ≡ 0) × (filled ≡ 0)
-IsEmptyKind (DirectoryKind parent subdirectories) = Unit {0}
+IsEmptyKind kind = IfSome (size_in kind) (λ size. size ≡ 0) × (filled_blocks kind ≡ 0)
 
 -- what has to be so of a node to be dropped: it stands under the name, and has neither bytes nor entries
 pub record LosesName (m : Dropping) (old : InodesValue) (directories : DirectoryMap) : Type 0 where

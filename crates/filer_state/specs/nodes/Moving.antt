@@ -4,8 +4,9 @@ use Rattle.std.specs.Prelude.{ℕ, Option}
 use Rattle.std.specs.FinMap.{insert}
 use Rattle.nfs_model.specs.Types.{Moment}
 use Rattle.nfs_model.specs.volume.Directories.{DirectoryValue, added, removed}
-use Rattle.nfs_model.specs.volume.Inodes.{InodeKind, RegularFile, DirectoryKind, Inode, InodesValue, inode_set}
+use Rattle.nfs_model.specs.volume.Inodes.{InodeKind, Inode, InodesValue, inode_set}
 use Rattle.filer_state.specs.state.Names.{DirectoryMap}
+use Rattle.filer_state.specs.state.Kinds.{directory_changed}
 use Rattle.filer_state.specs.state.Lenses.{LogicalSet}
 use Rattle.filer_state.specs.state.Changes.{attributes_now, touches_taken}
 use Rattle.filer_state.specs.nodes.Making.{directories_in, with_subdirectories}
@@ -45,8 +46,7 @@ entry_taken m set = record set {
 
 -- a directory has another parent
 abbrev pub with_parent : ℕ → InodeKind → InodeKind
-with_parent parent (RegularFile size filled verifier) = RegularFile size filled verifier
-with_parent parent (DirectoryKind old subdirectories) = DirectoryKind parent subdirectories
+with_parent parent kind = directory_changed (λ old. parent) (λ subdirectories. subdirectories) kind
 
 -- the node after it, where this was its file's latest touch: it settles, and its ctime is the moment
 abbrev pub node_hung : Naming → Option Moment → Inode

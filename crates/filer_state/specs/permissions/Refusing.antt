@@ -23,8 +23,8 @@ of_inode (Some inode) ask = ask (protection_of inode)
 
 -- a directory: nothing is asked of a file
 abbrev pub if_directory : InodeKind → Option Status → Option Status
-if_directory (RegularFile size filled verifier) asked = None
 if_directory (DirectoryKind parent subdirectories) asked = asked
+if_directory kind asked = None
 
 abbrev pub of_directory_inode : Option Inode → (Protection → Option Status) → Option Status
 of_directory_inode None ask = None
@@ -33,7 +33,7 @@ of_directory_inode (Some inode) ask = if_directory inode.kind (ask (protection_o
 -- a file: nothing is asked of a directory
 abbrev pub if_file : InodeKind → Option Status → Option Status
 if_file (RegularFile size filled verifier) asked = asked
-if_file (DirectoryKind parent subdirectories) asked = None
+if_file kind asked = None
 
 abbrev pub of_file_inode : Option Inode → (Protection → Option Status) → Option Status
 of_file_inode None ask = None
@@ -77,8 +77,8 @@ target_asked who directory (Some object) = gone_asked who directory (Some object
 
 -- a directory that comes into another one needs w
 abbrev pub moved_kind : Credential → Bool → Protection → Kind → Option Status
-moved_kind who stays object Regular = None
 moved_kind who stays object types.DirectoryKind = needs (stays || (rights_of who object).writes)
+moved_kind who stays object kind = None
 
 -- what moves: its name goes, the other comes
 abbrev pub move_asked : Credential → Bool → Protection → Protection → Option Protection → Option Protection → Option Status

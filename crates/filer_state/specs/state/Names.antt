@@ -23,18 +23,20 @@ DirectoryMap = FinMap nat_cmp DirectoryValue
 
 -- ---- what an inode tells
 
--- the size of a file; a directory has none
+-- the size of a file; nothing else has one
 abbrev pub size_in : InodeKind → Option ℕ
 size_in (RegularFile size filled verifier) = Some size
-size_in (DirectoryKind parent subdirectories) = None
+size_in kind = None
 
+-- the parent of a directory; nothing else has one
 abbrev pub parent_in : InodeKind → Option ℕ
-parent_in (RegularFile size filled verifier) = None
 parent_in (DirectoryKind parent subdirectories) = Some parent
+parent_in kind = None
 
+-- how many subdirectories a directory has
 abbrev pub subdirectories_in : InodeKind → Option ℕ
-subdirectories_in (RegularFile size filled verifier) = None
 subdirectories_in (DirectoryKind parent subdirectories) = Some subdirectories
+subdirectories_in kind = None
 
 -- the size of a file that is there
 abbrev pub size_of : Option Inode → Option ℕ

@@ -61,21 +61,18 @@ abbrev pub directory_or_empty : Option DirectoryValue → DirectoryValue
 directory_or_empty None = empty_directory
 directory_or_empty (Some d) = d
 
--- a node by its attributes and kind: a file's size is its inode's, its bytes, blocks and touch are its stripes'
+-- a node by its attributes and kind: a file has these bytes by its size, these blocks and this touch, a directory these entries
+abbrev pub node_with : (ℕ → List ℕ) → FinSet nat_cmp → Option Moment → DirectoryValue → Attributes → InodeKind → Node
+node_with bytes blocks touch entries attributes (RegularFile size filled verifier) =
+    File (record { attributes = attributes; bytes = bytes size; filled = blocks; touch = touch; verifier = verifier })
+node_with bytes blocks touch entries attributes (DirectoryKind parent subdirectories) =
+    Directory (record { attributes = attributes; parent = parent; next = entries.next; list = entries.list })
+
+-- a file's size is its inode's, its bytes, blocks and touch are its stripes'
 abbrev pub node_by : List StripeValue → Option DirectoryValue → ℕ → Attributes → InodeKind → Node
-node_by stripes directory fileid attributes (RegularFile size filled verifier) = File (record {
-  attributes = attributes;
-  bytes = file_bytes stripes fileid size;
-  filled = file_filled stripes fileid;
-  touch = file_touch stripes fileid;
-  verifier = verifier;
-})
-node_by stripes directory fileid attributes (DirectoryKind parent subdirectories) = Directory (record {
-  attributes = attributes;
-  parent = parent;
-  next = (directory_or_empty directory).next;
-  list = (directory_or_empty directory).list;
-})
+node_by stripes directory fileid attributes kind =
+    node_with (file_bytes stripes fileid) (file_filled stripes fileid) (file_touch stripes fileid) (directory_or_empty directory)
+    attributes kind
 
 -- the node of an inode
 abbrev pub node_of : List StripeValue → FinMap nat_cmp DirectoryValue → ℕ → Inode → Node

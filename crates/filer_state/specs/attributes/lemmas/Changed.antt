@@ -9,16 +9,16 @@ use Rattle.std.specs.FinMap.{FinMap, get, len, insert}
 use Rattle.std.specs.FinSet as sets
 use Rattle.std.specs.Cmp.{nat_cmp_total}
 use Rattle.std.specs.FinMap.{nat_cmp-IsAntisymmetric}
-use Rattle.nfs_model.specs.Server.{Attributes, Node, File}
+use Rattle.nfs_model.specs.Server.{Attributes, Node}
 use Rattle.nfs_model.specs.Parts.{Hand}
 use Rattle.nfs_model.specs.volume.Maps.{map_values}
-use Rattle.nfs_model.specs.volume.Inodes.{InodeKind, RegularFile, DirectoryKind, Inode, InodesValue, filled_blocks, inode_of, inode_set}
+use Rattle.nfs_model.specs.volume.Inodes.{InodeKind, Inode, InodesValue, filled_blocks, inode_of, inode_set}
 use Rattle.nfs_model.specs.volume.Stripes.{Card, StripeValue}
 use Rattle.nfs_model.specs.volume.lemmas.Inodes.{inode-set-there, inode-set-other, next-set, used-set-same, len-set, set-is}
 use Rattle.nfs_model.specs.volume.lemmas.Maps.{get-map_values}
 use Rattle.nfs_model.specs.volume.lemmas.Numbered.{get-insert_at, same-answers}
 use Rattle.filer_state.specs.state.Contents.{VolumeContents}
-use Rattle.filer_state.specs.state.Tree.{stripe_at, file_filled, file_touch, node_by, node_of}
+use Rattle.filer_state.specs.state.Tree.{stripe_at, file_filled, file_touch, directory_or_empty, node_with, node_by, node_of}
 use Rattle.filer_state.specs.state.Names.{DirectoryMap}
 use Rattle.filer_state.specs.state.WellFormed.{StripeFits, WellFormed, size_shown, owner_shown, owner_in}
 use Rattle.filer_state.specs.state.Partition.{times_in_stripe}
@@ -138,14 +138,9 @@ module _ (stripes : List StripeValue) (directories : DirectoryMap) (f : ℕ) (ch
 
   other-node : (q : ℕ) → (q == f) ≡ false → (a : Attributes) (kind : InodeKind)
       → node_by taken (get directories q) q a kind ≡ node_by stripes (get directories q) q a kind
-  other-node q ne a (RegularFile size filled verifier) = λ j. File (record {
-    attributes = a;
-    bytes = blocks.bytes-stay (with_cards change) (λ s. refl) stripes q size j;
-    filled = blocks.filled-stays (with_cards change) (λ s. refl) stripes q j;
-    touch = touches q ne j;
-    verifier = verifier;
-  })
-  other-node q ne a (DirectoryKind parent subdirectories) = refl
+  other-node q ne a kind = λ j. node_with
+      (λ size. blocks.bytes-stay (with_cards change) (λ s. refl) stripes q size j) (blocks.filled-stays (with_cards change) (λ s. refl) stripes q j)
+      (touches q ne j) (directory_or_empty (get directories q)) a kind
 
   pub nodes-changed : (v : InodesValue) (old inode : Inode) → inode_of v f ≡ Some old → inode.kind ≡ old.kind
       → map_values (node_of taken directories) (inode_set f inode v).inodes

@@ -1,21 +1,24 @@
 -- An inode set of the same kind, whose cards have its owner and keep their touches: all stays sound, and the volume has the node with the
 -- inode's attributes.
-use Rattle.std.proofs.Common.{◌≡◌, ℕ, ◌==◌, Bool, true, false, List, [], ◌∷◌, Some, refl, sym, ap, ◌∙◌}
+use Rattle.std.proofs.Common.{◌≡◌, ℕ, ◌==◌, Bool, true, false, List, [], ◌∷◌, Option, Some, None, refl, sym, ap, ◌∙◌}
 use Rattle.std.proofs.lemmas.Bool.{eqb-true}
 use Rattle.std.specs.Option.{option_map}
+use Rattle.std.specs.Ordering.{nat_cmp}
 use Rattle.std.specs.FinMap.{get}
-use Rattle.nfs_model.specs.Types.{Ownership}
+use Rattle.std.specs.FinSet.{FinSet}
+use Rattle.nfs_model.specs.Types.{Moment, Ownership}
 use Rattle.nfs_model.specs.Server.{Attributes, Node, File, Directory}
 use Rattle.nfs_model.specs.Serial.Rights.{ownership_of}
 use Rattle.nfs_model.specs.Serial.Setattr.{with_node}
 use Rattle.nfs_model.specs.Parts.{Hand}
 use Rattle.nfs_model.specs.volume.Maps.{changed_at}
-use Rattle.nfs_model.specs.volume.Inodes.{InodeKind, RegularFile, DirectoryKind, Inode, inode_set}
+use Rattle.nfs_model.specs.volume.Directories.{DirectoryValue}
+use Rattle.nfs_model.specs.volume.Inodes.{InodeKind, RegularFile, Inode, inode_set}
 use Rattle.nfs_model.specs.volume.Stripes.{StripeValue, card_owned}
 use Rattle.nfs_model.specs.volume.lemmas.Inodes.{inode-set-there, inode-set-other, next-set}
 use Rattle.filer_state.specs.state.Contents.{VolumeContents}
-use Rattle.filer_state.specs.state.Tree.{file_touch, node_by, node_of, volume_of, later}
-use Rattle.filer_state.specs.state.Names.{DirectoryMap}
+use Rattle.filer_state.specs.state.Tree.{file_bytes, file_filled, file_touch, directory_or_empty, node_with, node_by, node_of, volume_of, later}
+use Rattle.filer_state.specs.state.Names.{DirectoryMap, size_in}
 use Rattle.filer_state.specs.state.WellFormed.{owner_shown, owner_by, owner_in}
 use Rattle.filer_state.specs.state.Sound.{IsSound}
 use Rattle.filer_state.specs.state.Lenses.{logical_lens}
@@ -42,17 +45,16 @@ module _ (p : VolumeContents) (f : ℕ) (old inode : Inode) (there : get p.logic
       was : option_map owner_shown (get s.cards f) ≡ Some (owner_by old.attributes old.kind)
       was = fits f ∙ ap (option_map owner_in) there
 
-      here : (k : InodeKind) → old.kind ≡ k → option_map owner_shown (get changed.cards f) ≡ Some (owner_by inode.attributes k)
-      here (RegularFile size filled verifier) is =
-          owner-here f own s (ownership_of old.attributes) (was ∙ ap (λ (k : InodeKind). Some (owner_by old.attributes k)) is)
-      here (DirectoryKind parent subdirectories) is =
-          owner-none f own s (was ∙ ap (λ (k : InodeKind). Some (owner_by old.attributes k)) is)
+      here : (o : Option ℕ) → size_in old.kind ≡ o → option_map owner_shown (get changed.cards f) ≡ Some (option_map (λ (size : ℕ). own) o)
+      here (Some size) is =
+          owner-here f own s (ownership_of old.attributes) (was ∙ ap (λ o. Some (option_map (λ (size : ℕ). ownership_of old.attributes) o)) is)
+      here None is = owner-none f own s (was ∙ ap (λ o. Some (option_map (λ (size : ℕ). ownership_of old.attributes) o)) is)
 
       by : (b : Bool) → (q == f) ≡ b
           → option_map owner_shown (get changed.cards q) ≡ option_map owner_in (get (inode_set f inode p.logical.inodes).inodes q)
       by true e =
           ap (λ (k : ℕ). option_map owner_shown (get changed.cards k)) (eqb-true q f e)
-          ∙ here old.kind refl ∙ ap (λ (k : InodeKind). Some (owner_by inode.attributes k)) (sym same)
+          ∙ here (size_in old.kind) refl ∙ ap (λ (k : InodeKind). Some (owner_by inode.attributes k)) (sym same)
           ∙ sym (ap (option_map owner_in) (inode-set-there p.logical.inodes f old inode there))
           ∙ ap (λ (k : ℕ). option_map owner_in (get (inode_set f inode p.logical.inodes).inodes k)) (sym (eqb-true q f e))
       by false e =
@@ -69,16 +71,18 @@ with_owner a (File g) = File (record g { attributes = a })
 with_owner a (Directory d) = Directory (record d { attributes = a })
 
 module _ (stripes : List StripeValue) (directories : DirectoryMap) (f : ℕ) (owner : Ownership) where
+  owned-with : (bytes : ℕ → List ℕ) (filled : FinSet nat_cmp) (touch : Option Moment) (d : DirectoryValue) (a b : Attributes) (kind : InodeKind)
+      → node_with bytes filled touch d a kind ≡ with_owner a (node_with bytes filled touch d b kind)
+  owned-with bytes filled touch d a b (RegularFile size many verifier) = refl
+  owned-with bytes filled touch d a b kind = refl
+
   this-node : (a b : Attributes) (kind : InodeKind)
       → node_by (stripes_owned f owner stripes) (get directories f) f a kind ≡ with_owner a (node_by stripes (get directories f) f b kind)
-  this-node a b (RegularFile size filled verifier) = λ j. File (record {
-    attributes = a;
-    bytes = blocks.bytes-stay (with_cards (cards_owned f owner)) (λ s. refl) stripes f size j;
-    filled = blocks.filled-stays (with_cards (cards_owned f owner)) (λ s. refl) stripes f j;
-    touch = touch-same f owner stripes f j;
-    verifier = verifier;
-  })
-  this-node a b (DirectoryKind parent subdirectories) = refl
+  this-node a b kind =
+      (λ j. node_with (λ size. blocks.bytes-stay (with_cards (cards_owned f owner)) (λ s. refl) stripes f size j)
+      (blocks.filled-stays (with_cards (cards_owned f owner)) (λ s. refl) stripes f j) (touch-same f owner stripes f j)
+      (directory_or_empty (get directories f)) a kind)
+      ∙ owned-with (file_bytes stripes f) (file_filled stripes f) (file_touch stripes f) (directory_or_empty (get directories f)) a b kind
 
 -- ---- the volume after it
 

@@ -1,18 +1,21 @@
 -- A node that settles and has an inode set of the same kind: all stays sound, and the volume has the node with the inode's
 -- attributes.
-use Rattle.std.proofs.Common.{◌≡◌, ℕ, ◌+◌, List, Some, refl, ◌∙◌}
+use Rattle.std.proofs.Common.{◌≡◌, ℕ, ◌+◌, List, Option, Some, None, refl, ◌∙◌}
+use Rattle.std.specs.Ordering.{nat_cmp}
 use Rattle.std.specs.FinMap.{get, insert}
-use Rattle.nfs_model.specs.Types.{Ownership}
+use Rattle.std.specs.FinSet.{FinSet}
+use Rattle.nfs_model.specs.Types.{Moment, Ownership}
 use Rattle.nfs_model.specs.Server.{Attributes, Node, File, Directory}
 use Rattle.nfs_model.specs.Serial.Rights.{ownership_of}
 use Rattle.nfs_model.specs.Shown.{settled}
 use Rattle.nfs_model.specs.Parts.{Hand}
 use Rattle.depot_rule.specs.Sums.{total}
 use Rattle.nfs_model.specs.volume.Maps.{map_values, changed_at}
-use Rattle.nfs_model.specs.volume.Inodes.{InodeKind, RegularFile, DirectoryKind, Inode, InodesValue, inode_of, inode_set}
+use Rattle.nfs_model.specs.volume.Directories.{DirectoryValue}
+use Rattle.nfs_model.specs.volume.Inodes.{InodeKind, RegularFile, Inode, InodesValue, inode_of, inode_set}
 use Rattle.nfs_model.specs.volume.Stripes.{StripeValue, card_settled, touch_taken}
 use Rattle.filer_state.specs.state.Contents.{VolumeContents}
-use Rattle.filer_state.specs.state.Tree.{node_by, node_of}
+use Rattle.filer_state.specs.state.Tree.{file_bytes, file_filled, file_touch, directory_or_empty, node_with, node_by, node_of}
 use Rattle.filer_state.specs.state.Names.{DirectoryMap}
 use Rattle.filer_state.specs.state.Partition.{times_in_hand}
 use Rattle.filer_state.specs.state.Sound.{IsSound}
@@ -56,16 +59,17 @@ module _ (stripes : List StripeValue) (directories : DirectoryMap) (f : ℕ) (ow
   abbrev taken : List StripeValue
   taken = stripes_settled f owner stripes
 
+  settled-with : (bytes : ℕ → List ℕ) (blocks : FinSet nat_cmp) (touch : Option Moment) (d : DirectoryValue) (a b : Attributes) (kind : InodeKind)
+      → node_with bytes blocks None d a kind ≡ with_attributes a (node_with bytes blocks touch d b kind)
+  settled-with bytes blocks touch d a b (RegularFile size filled verifier) = refl
+  settled-with bytes blocks touch d a b kind = refl
+
   pub this-node : (a b : Attributes) (kind : InodeKind)
       → node_by taken (get directories f) f a kind ≡ with_attributes a (node_by stripes (get directories f) f b kind)
-  this-node a b (RegularFile size filled verifier) = λ j. File (record {
-    attributes = a;
-    bytes = bytes-stay f owner stripes f size j;
-    filled = filled-stays f owner stripes f j;
-    touch = touch-gone f owner stripes j;
-    verifier = verifier;
-  })
-  this-node a b (DirectoryKind parent subdirectories) = refl
+  this-node a b kind =
+      (λ j. node_with (λ size. bytes-stay f owner stripes f size j) (filled-stays f owner stripes f j) (touch-gone f owner stripes j)
+      (directory_or_empty (get directories f)) a kind)
+      ∙ settled-with (file_bytes stripes f) (file_filled stripes f) (file_touch stripes f) (directory_or_empty (get directories f)) a b kind
 
   -- the nodes, where the inode is set
   pub nodes-set : (v : InodesValue) (old inode : Inode) → inode_of v f ≡ Some old → inode.kind ≡ old.kind

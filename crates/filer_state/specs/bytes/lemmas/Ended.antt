@@ -11,7 +11,7 @@ use Rattle.nfs_model.specs.Parts.{Hand}
 use Rattle.nfs_model.specs.Serial.Rights.{ownership_of, without_set_ids}
 use Rattle.nfs_model.specs.Serial.Setattr.{with_node}
 use Rattle.nfs_model.specs.Serial.Write.{Writing, bytes_kept, written_file, file_taken, clears_set_ids}
-use Rattle.nfs_model.specs.volume.Inodes.{InodeKind, RegularFile, DirectoryKind, Inode}
+use Rattle.nfs_model.specs.volume.Inodes.{InodeKind, RegularFile, Inode}
 use Rattle.nfs_model.specs.volume.Stripes.{StripeValue}
 use Rattle.nfs_model.specs.volume.lemmas.Inodes.{used-set-same}
 use Rattle.nfs_model.specs.volume.lemmas.Numbered.{get-insert_at, insert-twice, itself}
@@ -84,7 +84,7 @@ module _ (p q : VolumeContents) (f : ℕ) (handle : List ℕ) (w : Writing) (nod
     where
       by : (a : Attributes) (k : InodeKind) → stored_in (node_by q.stripes (get q.logical.directories f) f a k) ≡ a
       by a (RegularFile size filled verifier) = refl
-      by a (DirectoryKind parent subdirectories) = refl
+      by a k = refl
 
   abbrev pub ended : VolumeContents
   ended = ended_in (owner_at (get p.logical.inodes.inodes f)) f q

@@ -15,6 +15,7 @@ use Rattle.nfs_model.specs.volume.lemmas.Inodes.{inode-set-there, inode-set-othe
 use Rattle.filer_state.specs.state.Contents.{VolumeContents}
 use Rattle.filer_state.specs.state.Tree.{stripe_at, home_stripe, file_byte, file_filled, file_touch, later, most_file_blocks}
 use Rattle.filer_state.specs.state.Names.{size_in, size_of, parent_directory, subdirectories_of}
+use Rattle.filer_state.specs.state.Kinds.{IsFile}
 use Rattle.filer_state.specs.state.WellFormed.{StripeFits, BlockFits, WellFormed, size_shown, owner_shown, owner_by, owner_in}
 use Rattle.filer_state.specs.state.Partition.{times_in_stripe, times_in_hand}
 use Rattle.filer_state.specs.state.Sound.{IsSound}
@@ -75,7 +76,7 @@ refiled f inode stripes p =
     record p { logical = record p.logical { inodes = inode_set f inode p.logical.inodes }; stripes = stripes }
 
 module _ (p : VolumeContents) (f : ℕ) (inode : Inode) (old_size blocks : ℕ) (verifier : Option (List ℕ)) (size more : ℕ) (stripes : List StripeValue)
-    (there : get p.logical.inodes.inodes f ≡ Some inode) (is_file : inode.kind ≡ RegularFile old_size blocks verifier)
+    (there : get p.logical.inodes.inodes f ≡ Some inode) (is_file : IsFile inode.kind old_size blocks verifier)
     (well : WellFormed p) (small : size ≤ p.logical.largest) (new : Refiles p f size more stripes) where
   abbrev old : InodesValue
   old = p.logical.inodes

@@ -65,8 +65,8 @@ small-size largest (Some n) h = fits h
 
 module _ (p : VolumeContents) (hands hands' : List Hand) (made : ℕ) (sound : IsSound p hands made) (weigh : WeighAlike p.number hands hands')
     (c : VolumeCall) (says : SaysNothing c)
-    (fileid : ℕ) (name : List ℕ) (moment : Moment) (inode : Inode) (parent subs : ℕ)
-    (here : IsDirectoryHere p fileid name moment inode parent subs) (absent : found (entries_of p.logical fileid) name ≡ None) where
+    (fileid : ℕ) (name : List ℕ) (moment : Moment) (inode : Inode) (parent : ℕ)
+    (here : IsDirectoryHere p fileid name moment inode parent) (absent : found (entries_of p.logical fileid) name ≡ None) where
   abbrev h : HeldNaming
   h = naming_held p fileid name moment inode
 
@@ -93,8 +93,9 @@ module _ (p : VolumeContents) (hands hands' : List Hand) (made : ℕ) (sound : I
       (sym (create-fault p set))
       (checked done effect (create_check set (logical_lens.of p)) (λ passes.
       let pass = all-pass Invalid TooBig NoSpace (has_bad_time set) (is_past set.size p.logical.largest) (is_full_set (logical_lens.of p)) passes in
-      made-right p hands hands' made sound weigh c says fileid name moment inode parent subs here absent (few-left p pass.1)
-      (file_inode mode (maker_in caller h) moment) (refl, small-size p.logical.largest set.size pass.0)))
+      made-right p hands hands' made sound weigh c says fileid name moment inode parent here absent (few-left p pass.1)
+      (file_inode mode (maker_in caller h) moment)
+      (record { blocks = refl; size = small-size p.logical.largest set.size pass.0; parent = tt; alone = tt })))
     where
       set : SetAttributes
       set = asked_attributes mode
@@ -114,8 +115,9 @@ module _ (p : VolumeContents) (hands hands' : List Hand) (made : ℕ) (sound : I
       (sym (mkdir-fault p set))
       (checked done effect (mkdir_check set (logical_lens.of p)) (λ passes.
       let pass = all-pass Invalid Invalid NoSpace (has_bad_time set) (is_some set.size) (is_full_set (logical_lens.of p)) passes in
-      made-right p hands hands' made sound weigh c says fileid name moment inode parent subs here absent (few-left p pass.1)
-      (made_directory_inode fileid set (maker_in caller h) moment) (refl, refl)))
+      made-right p hands hands' made sound weigh c says fileid name moment inode parent here absent (few-left p pass.1)
+      (made_directory_inode fileid set (maker_in caller h) moment)
+      (record { blocks = refl; size = tt; parent = refl; alone = refl })))
     where
       done : LogicalAnswer
       done = held_made h (made_directory_inode fileid set (maker_in caller h) moment)

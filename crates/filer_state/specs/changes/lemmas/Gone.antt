@@ -1,5 +1,5 @@
 -- A node without bytes and entries that loses its name, as the serial server sees it: what is shown of its directory, and no block moves.
-use Rattle.std.proofs.Common.{◌≡◌, ℕ, ◌+◌, ◌-◌, ◌*◌, ◌≤◌, ◌==◌, ◌&&◌, Bool, true, false, List, [], ◌∷◌, ◌++◌, map, Option, Some, None}
+use Rattle.std.proofs.Common.{◌≡◌, ℕ, ◌+◌, ◌*◌, ◌≤◌, ◌==◌, ◌&&◌, Bool, true, false, List, [], ◌∷◌, ◌++◌, map, Option, Some, None}
 use Rattle.std.proofs.Common.{refl, sym, ap, ◌∙◌, arith, nat_lt}
 use Rattle.std.specs.Prelude.{if◌then◌else◌}
 use Rattle.std.proofs.lemmas.Bool.Decides.{nat_tests}
@@ -17,7 +17,7 @@ use Rattle.nfs_model.specs.Types.{Moment, GoneDone}
 use Rattle.nfs_model.specs.Locate.{Naming}
 use Rattle.nfs_model.specs.Serial.Remove as removes
 use Rattle.nfs_model.specs.Serial.Remove.{without_child, gone}
-use Rattle.nfs_model.specs.volume.Inodes.{DirectoryKind, Inode}
+use Rattle.nfs_model.specs.volume.Inodes.{Inode}
 use Rattle.nfs_model.specs.volume.Stripes.{StripeValue, card_dropped}
 use Rattle.nfs_model.specs.volume.lemmas.Numbered.{get-insert_at, get-remove_at, same-answers, itself}
 use Rattle.filer_state.specs.state.Contents.{VolumeContents}
@@ -32,9 +32,9 @@ use Rattle.filer_state.specs.laws.lemmas.Counted.{used-is}
 use Rattle.filer_state.specs.laws.lemmas.SameBlocks.{total-mapped}
 use Rattle.filer_state.specs.names.lemmas.DirectoryKinds.{same-shown}
 use Rattle.filer_state.specs.nodes.Making.{directories_in}
-use Rattle.filer_state.specs.nodes.Dropping.{Dropping, without_subdirectories, directory_left}
+use Rattle.filer_state.specs.nodes.Dropping.{Dropping, directory_left}
 use Rattle.filer_state.specs.nodes.Laws.{WeighAlike, LosesName, seen_directory}
-use Rattle.filer_state.specs.nodes.lemmas.Unnamed.{at-directory}
+use Rattle.filer_state.specs.nodes.lemmas.Unnamed.{parent-kept, at-directory}
 use Rattle.filer_state.specs.nodes.lemmas.Dropped.{left_in, sound-left, volume-left}
 use Rattle.filer_state.specs.changes.Named.{HeldNode}
 use Rattle.filer_state.specs.changes.Dropping.{dropping_of, held_gone}
@@ -72,8 +72,8 @@ none-before s = sets.same_set nat_cmp_total nat_cmp-IsAntisymmetric (retain s (�
 
 -- ---- a node dropped from a volume
 
-module _ (q : VolumeContents) (m : Dropping) (may : LosesName m q.logical.inodes q.logical.directories) (parent subs : ℕ)
-    (is : m.inode.kind ≡ DirectoryKind parent subs) (hands hands' : List Hand) (made now : ℕ) (later : made ≤ now)
+module _ (q : VolumeContents) (m : Dropping) (may : LosesName m q.logical.inodes q.logical.directories) (parent : ℕ)
+    (says : parent_in m.inode.kind ≡ Some parent) (hands hands' : List Hand) (made now : ℕ) (later : made ≤ now)
     (weigh : WeighAlike q.number hands hands') (sound : IsSound q hands made) where
   abbrev after : VolumeContents
   after = left_in m q
@@ -88,7 +88,7 @@ module _ (q : VolumeContents) (m : Dropping) (may : LosesName m q.logical.inodes
   sound-gone = sound-left q m sound.well_formed may hands hands' made now later weigh sound
 
   pub volume-gone : volume_of after ≡ volume_then
-  volume-gone = volume-left q m sound.well_formed may parent (ap parent_in is)
+  volume-gone = volume-left q m sound.well_formed may parent says
 
   -- the directory after it
   directory-gone : shown volume_then m.directory (Directory directory_then) ≡ shown_inode q.number m.directory (directory_left m) None
@@ -97,8 +97,8 @@ module _ (q : VolumeContents) (m : Dropping) (may : LosesName m q.logical.inodes
       (get-insert_at (remove (volume_of q).nodes m.fileid) m.directory (Directory directory_then) m.directory
       ∙ ap (λ (b : Bool). if b then Some (Directory directory_then) else get (remove (volume_of q).nodes m.fileid) m.directory) (itself m.directory))
       (at-directory q.logical.inodes q.logical.directories m may)
-      ∙ same-shown q.number m.directory (directory_left m) parent (subs - directories_in m.dropped.kind)
-      (ap (without_subdirectories (directories_in m.dropped.kind)) is) (file_touch after.stripes m.directory)
+      ∙ same-shown q.number m.directory (directory_left m) parent
+      (parent-kept (directories_in m.dropped.kind) m.inode.kind ∙ says) (file_touch after.stripes m.directory)
 
   -- no block moves
   numbers-stay : (stripes : List StripeValue) → all_numbers (map (card_dropped m.fileid) stripes) ≡ all_numbers stripes
@@ -117,8 +117,8 @@ module _ (q : VolumeContents) (m : Dropping) (may : LosesName m q.logical.inodes
 -- ---- a name gone
 
 -- a call by which a node loses its name, in a volume that may have changed but for the directory
-module _ (p : VolumeContents) (fileid : ℕ) (name : List ℕ) (moment : Moment) (inode : Inode) (parent subs : ℕ)
-    (here : IsDirectoryHere p fileid name moment inode parent subs) (child : HeldNode) (set : LogicalSet)
+module _ (p : VolumeContents) (fileid : ℕ) (name : List ℕ) (moment : Moment) (inode : Inode) (parent : ℕ)
+    (here : IsDirectoryHere p fileid name moment inode parent) (child : HeldNode) (set : LogicalSet)
     (hands hands' : List Hand) (made : ℕ) (sound : IsSound p hands made) (weigh : WeighAlike p.number hands hands') where
   abbrev q : VolumeContents
   q = logical_lens.put set p
@@ -135,12 +135,12 @@ module _ (p : VolumeContents) (fileid : ℕ) (name : List ℕ) (moment : Moment)
       → PartsChange c.call c.node (stored p) (stored (left_in m q))
       → RightAs c p hands' (made + 1) (held_gone (naming_held p fileid name moment inode) child set) (gone seen child.fileid)
   gone-right c may still left parts =
-      let before = ap before_of (sym (before-shown p fileid name moment sound.well_formed inode parent subs here)) in
+      let before = ap before_of (sym (before-shown p fileid name moment sound.well_formed inode parent here)) in
       let told =
       (λ j. shown (sym left j) fileid (removes.directory_left seen))
-      ∙ directory-gone q m may parent subs here.kind hands hands' made (made + 1) (omega arith) weigh still in (
+      ∙ directory-gone q m may parent here.says hands hands' made (made + 1) (omega arith) weigh still in (
         λ j. GoneDone (record { before = before j; after = sym told j }),
-        volume-gone q m may parent subs here.kind hands hands' made (made + 1) (omega arith) weigh still ∙ left,
+        volume-gone q m may parent here.says hands hands' made (made + 1) (omega arith) weigh still ∙ left,
         parts,
-        sound-gone q m may parent subs here.kind hands hands' made (made + 1) (omega arith) weigh still,
+        sound-gone q m may parent here.says hands hands' made (made + 1) (omega arith) weigh still,
       )

@@ -15,7 +15,7 @@ use Rattle.nfs_model.specs.Serial.Starve.{has_name, takes_memory}
 use Rattle.nfs_model.specs.Work.{Starved}
 use Rattle.nfs_model.specs.Parts.{Hand}
 use Rattle.nfs_model.specs.volume.Directories.{fileid_found}
-use Rattle.nfs_model.specs.volume.Inodes.{InodeKind, RegularFile, DirectoryKind, Inode}
+use Rattle.nfs_model.specs.volume.Inodes.{InodeKind, DirectoryKind, Inode}
 use Rattle.filer_state.specs.state.Contents.{VolumeContents}
 use Rattle.filer_state.specs.state.Tree.{node_by, node_of, volume_of}
 use Rattle.filer_state.specs.state.Sound.{IsSound}
@@ -52,7 +52,7 @@ module _ (handle : List ℕ) (node : Affinity) (fileid : ℕ) (name : List ℕ) 
     create-fails : (status : Status) → RightHere (fails status (logical_lens.of p)) (Fails status)
     create-fails status = failure-right p hands hands' made sound weigh creates create-says status
 
-    module _ (inode : Inode) (parent subs : ℕ) (here : IsDirectoryHere p fileid name moment inode parent subs) where
+    module _ (inode : Inode) (parent : ℕ) (here : IsDirectoryHere p fileid name moment inode parent) where
       abbrev h : HeldNaming
       h = naming_held p fileid name moment inode
 
@@ -60,10 +60,10 @@ module _ (handle : List ℕ) (node : Affinity) (fileid : ℕ) (name : List ℕ) 
       n = naming_seen p fileid name moment inode parent
 
       create-under : RightHere (create_by h mode caller (node_under h)) (create_at n mode caller (named_child n))
-      create-under = child-right p sound.well_formed fileid name moment inode parent subs here
+      create-under = child-right p sound.well_formed fileid name moment inode parent here
           (λ (o : Option HeldNode) (x : Option Found). RightHere (create_by h mode caller o) (create_at n mode caller x))
-          (λ absent. file-right p hands hands' made sound weigh creates create-says fileid name moment inode parent subs here absent mode caller)
-          (λ c there. there-as handle node mode caller p hands hands' made sound weigh fileid name moment create-says inode parent subs here c there)
+          (λ absent. file-right p hands hands' made sound weigh creates create-says fileid name moment inode parent here absent mode caller)
+          (λ c there. there-as handle node mode caller p hands hands' made sound weigh fileid name moment create-says inode parent here c there)
 
       create-here : (b : Bool) → RightHere (if b then fails Exists (logical_lens.of p) else create_by h mode caller (node_under h))
           (if b then Fails Exists else create_at n mode caller (named_child n))
@@ -72,7 +72,7 @@ module _ (handle : List ℕ) (node : Affinity) (fileid : ℕ) (name : List ℕ) 
 
     create-right : RightHere (create_done p.number fileid name mode caller moment (logical_lens.of p)) (creates.run (volume_of p))
     create-right = named-right p fileid name moment sound.well_formed RightHere (held_create mode caller) (create mode caller) create-fails
-        (λ inode parent subs here. create-here inode parent subs here (is_dots name))
+        (λ inode parent here. create-here inode parent here (is_dots name))
 
   pub create-is-done : (v : ℕ) (s : LogicalSet) → IsDone v creates s (create_done v fileid name mode caller moment s)
   create-is-done v s = done-right v creates (λ w t. create_done w fileid name mode caller moment t) (λ p. refl) refl
@@ -94,7 +94,7 @@ module _ (handle : List ℕ) (node : Affinity) (fileid : ℕ) (name : List ℕ) 
     mkdir-fails : (status : Status) → RightMade (fails status (logical_lens.of p)) (Fails status)
     mkdir-fails status = failure-right p hands hands' made sound weigh makes mkdir-says status
 
-    module _ (inode : Inode) (parent subs : ℕ) (here : IsDirectoryHere p fileid name moment inode parent subs) where
+    module _ (inode : Inode) (parent : ℕ) (here : IsDirectoryHere p fileid name moment inode parent) where
       abbrev held : HeldNaming
       held = naming_held p fileid name moment inode
 
@@ -102,9 +102,9 @@ module _ (handle : List ℕ) (node : Affinity) (fileid : ℕ) (name : List ℕ) 
       seen = naming_seen p fileid name moment inode parent
 
       mkdir-under : RightMade (mkdir_by held set caller (node_under held)) (mkdir_at seen set caller (named_child seen))
-      mkdir-under = child-right p sound.well_formed fileid name moment inode parent subs here
+      mkdir-under = child-right p sound.well_formed fileid name moment inode parent here
           (λ (o : Option HeldNode) (x : Option Found). RightMade (mkdir_by held set caller o) (mkdir_at seen set caller x))
-          (λ absent. directory-right p hands hands' made sound weigh makes mkdir-says fileid name moment inode parent subs here absent set caller)
+          (λ absent. directory-right p hands hands' made sound weigh makes mkdir-says fileid name moment inode parent here absent set caller)
           (λ c there. mkdir-fails Exists)
 
       mkdir-here : (b : Bool) → RightMade (if b then fails Exists (logical_lens.of p) else mkdir_by held set caller (node_under held))
@@ -114,7 +114,7 @@ module _ (handle : List ℕ) (node : Affinity) (fileid : ℕ) (name : List ℕ) 
 
     mkdir-right : RightMade (mkdir_done p.number fileid name set caller moment (logical_lens.of p)) (makes.run (volume_of p))
     mkdir-right = named-right p fileid name moment sound.well_formed RightMade (held_mkdir set caller) (mkdir set caller) mkdir-fails
-        (λ inode parent subs here. mkdir-here inode parent subs here (is_dots name))
+        (λ inode parent here. mkdir-here inode parent here (is_dots name))
 
   pub mkdir-is-done : (v : ℕ) (s : LogicalSet) → IsDone v makes s (mkdir_done v fileid name set caller moment s)
   mkdir-is-done v s = done-right v makes (λ w t. mkdir_done w fileid name set caller moment t) (λ p. refl) refl
@@ -150,8 +150,8 @@ no-name p fileid name absent = ap (λ (o : Option Node). has_name o name) (node-
 
     kinds : (inode : Inode) (kind : InodeKind)
         → has_name (Some (node_by p.stripes (get p.logical.directories fileid) fileid inode.attributes kind)) name ≡ false
-    kinds inode (RegularFile size filled verifier) = refl
     kinds inode (DirectoryKind parent subdirectories) = entry (find_name name (entries_of p.logical fileid).list) absent
+    kinds inode kind = refl
 
     by : (o : Option Inode) → has_name (option_map (node_of p.stripes p.logical.directories fileid) o) name ≡ false
     by None = refl

@@ -13,7 +13,7 @@ use Rattle.nfs_model.specs.Moves.{PartsChange}
 use Rattle.nfs_model.specs.Locate.{Effect, Fails, unless, on_directory, on_name, Found, found_at, child, Naming, named_child}
 use Rattle.nfs_model.specs.Serial.Absent.{absent_parts}
 use Rattle.nfs_model.specs.volume.Directories.{DirectoryValue, found}
-use Rattle.nfs_model.specs.volume.Inodes.{InodeKind, RegularFile, DirectoryKind, Inode}
+use Rattle.nfs_model.specs.volume.Inodes.{InodeKind, DirectoryKind, Inode}
 use Rattle.filer_state.specs.state.Contents.{VolumeContents}
 use Rattle.filer_state.specs.state.Tree.{directory_or_empty, node_by, node_of, volume_of}
 use Rattle.filer_state.specs.state.Names.{parent_in, is_directory, is_named, root, times_in_list}
@@ -107,17 +107,17 @@ module _ (p : VolumeContents) (fileid : ℕ) (name : List ℕ) (moment : Moment)
   }
 
   -- what is known of a directory
-  pub record IsDirectoryHere (inode : Inode) (parent subdirectories : ℕ) : Type 0 where
+  pub record IsDirectoryHere (inode : Inode) (parent : ℕ) : Type 0 where
     pub there : get p.logical.inodes.inodes fileid ≡ Some inode
-    pub kind : inode.kind ≡ DirectoryKind parent subdirectories
+    pub says : parent_in inode.kind ≡ Some parent
     pub entered : get p.logical.directories fileid ≡ Some entries_here
 
-  pub entered-here : WellFormed p → (inode : Inode) (parent subs : ℕ) → get p.logical.inodes.inodes fileid ≡ Some inode
-      → inode.kind ≡ DirectoryKind parent subs → get p.logical.directories fileid ≡ Some entries_here
-  entered-here well inode parent subs there is = by (get p.logical.directories fileid) refl
+  pub entered-here : WellFormed p → (inode : Inode) (parent : ℕ) → get p.logical.inodes.inodes fileid ≡ Some inode
+      → parent_in inode.kind ≡ Some parent → get p.logical.directories fileid ≡ Some entries_here
+  entered-here well inode parent there says = by (get p.logical.directories fileid) refl
     where
       some : is_some (get p.logical.directories fileid) ≡ true
-      some = well.logical.named.as_directories fileid ∙ ap is_directory there ∙ ap (λ (k : InodeKind). is_some (parent_in k)) is
+      some = well.logical.named.as_directories fileid ∙ ap is_directory there ∙ ap (λ (o : Option ℕ). is_some o) says
 
       by : (o : Option DirectoryValue) → get p.logical.directories fileid ≡ o → o ≡ Some (directory_or_empty o)
       by None e = let none : is_some (get p.logical.directories fileid) ≡ false = ap (λ x. is_some x) e in let t = some in absurd cc
@@ -126,7 +126,7 @@ module _ (p : VolumeContents) (fileid : ℕ) (name : List ℕ) (moment : Moment)
   -- what holds of failures, and of the call on each directory that is there, holds of the call
   pub named-right : WellFormed p → (Right : LogicalAnswer → Effect → Type 0) (run : HeldNaming → LogicalAnswer) (model : Naming → Effect)
       → ((status : Status) → Right (fails status (logical_lens.of p)) (Fails status))
-      → ((inode : Inode) (parent subs : ℕ) → IsDirectoryHere inode parent subs → Right (run (naming_held inode)) (model (naming_seen inode parent)))
+      → ((inode : Inode) (parent : ℕ) → IsDirectoryHere inode parent → Right (run (naming_held inode)) (model (naming_seen inode parent)))
       → Right (on_held_name p.number fileid name moment run (logical_lens.of p)) (on_name name moment model (volume_of p) fileid)
   named-right well Right run model failure goes =
       subst (λ (o : Option Node). Right (on_held_name p.number fileid name moment run (logical_lens.of p)) (on_directory o asked)) (sym (node-at p fileid))
@@ -144,10 +144,10 @@ module _ (p : VolumeContents) (fileid : ℕ) (name : List ℕ) (moment : Moment)
       kinds : (inode : Inode) → get p.logical.inodes.inodes fileid ≡ Some inode → (kind : InodeKind) → inode.kind ≡ kind
           → Right (on_kind kind (naming_held inode) run)
           (on_directory (Some (node_by p.stripes (get p.logical.directories fileid) fileid inode.attributes kind)) asked)
-      kinds inode there (RegularFile size filled verifier) is = failure _
       kinds inode there (DirectoryKind parent subs) is =
           checked (name_fault name) (run (naming_held inode)) (model (naming_seen inode parent))
-          (goes inode parent subs (record { there = there; kind = is; entered = entered-here well inode parent subs there is }))
+          (goes inode parent (record { there = there; says = ap parent_in is; entered = entered-here well inode parent there (ap parent_in is) }))
+      kinds inode there kind is = failure _
 
       by : (o : Option Inode) → get p.logical.inodes.inodes fileid ≡ o
           → Right (on_inode o (logical_lens.of p) (λ inode. on_kind inode.kind (naming_held inode) run))
@@ -156,9 +156,9 @@ module _ (p : VolumeContents) (fileid : ℕ) (name : List ℕ) (moment : Moment)
       by (Some inode) e = kinds inode e inode.kind refl
 
   -- its attributes before
-  pub before-shown : WellFormed p → (inode : Inode) (parent subs : ℕ) → IsDirectoryHere inode parent subs
+  pub before-shown : WellFormed p → (inode : Inode) (parent : ℕ) → IsDirectoryHere inode parent
       → shown (volume_of p) fileid (Directory (naming_seen inode parent).directory) ≡ shown_inode p.number fileid inode None
-  before-shown well inode parent subs here = directory-kind-shown p fileid well inode parent subs here.there here.kind
+  before-shown well inode parent here = directory-kind-shown p fileid well inode parent here.there here.says
 
 -- ---- the node under the name
 
@@ -198,8 +198,8 @@ pub record IsChildHere (p : VolumeContents) (fileid : ℕ) (name : List ℕ) (ch
 abbrev pub found_seen : VolumeContents → HeldNode → Found
 found_seen p c = record { fileid = c.fileid; node = node_of p.stripes p.logical.directories c.fileid c.inode }
 
-module _ (p : VolumeContents) (well : WellFormed p) (fileid : ℕ) (name : List ℕ) (moment : Moment) (inode : Inode) (parent subs : ℕ)
-    (here : IsDirectoryHere p fileid name moment inode parent subs) where
+module _ (p : VolumeContents) (well : WellFormed p) (fileid : ℕ) (name : List ℕ) (moment : Moment) (inode : Inode) (parent : ℕ)
+    (here : IsDirectoryHere p fileid name moment inode parent) where
   -- what holds where the name isn't there, and of each node that has it, holds of the node under the name
   pub child-right : (Right : Option HeldNode → Option Found → Type 0)
       → (found (entries_of p.logical fileid) name ≡ None → Right None None)

@@ -1,7 +1,7 @@
 -- REMOVE by what is under Logical.
-use Rattle.std.proofs.Common.{◌≡◌, ℕ, ◌+◌, ◌-◌, ◌==◌, Bool, true, false, List, length, Option, Some}
+use Rattle.std.proofs.Common.{◌≡◌, ℕ, ◌+◌, ◌-◌, ◌==◌, Bool, true, false, List, length, Option, Some, None}
 use Rattle.std.proofs.Common.{refl, sym, ap, ◌∙◌, subst, arith, ne_eqb}
-use Rattle.std.specs.Prelude.{if◌then◌else◌, is_some}
+use Rattle.std.specs.Prelude.{if◌then◌else◌, is_some, IfSome}
 use Rattle.std.specs.Option.{option_map}
 use Rattle.std.specs.Ordering.{nat_cmp}
 use Rattle.std.specs.FinMap.{get, insert, remove}
@@ -20,7 +20,8 @@ use Rattle.nfs_model.specs.volume.Inodes.{InodeKind, RegularFile, DirectoryKind,
 use Rattle.nfs_model.specs.volume.lemmas.Inodes.{inode-set-there, inode-set-other}
 use Rattle.filer_state.specs.state.Contents.{VolumeContents}
 use Rattle.filer_state.specs.state.Tree.{file_filled, node_by, node_of, volume_of}
-use Rattle.filer_state.specs.state.Names.{is_directory, parent_in}
+use Rattle.filer_state.specs.state.Names.{is_directory, size_in, parent_in}
+use Rattle.filer_state.specs.state.Kinds.{IsFile}
 use Rattle.filer_state.specs.state.Partition.{parts_of}
 use Rattle.filer_state.specs.state.Sound.{IsSound}
 use Rattle.filer_state.specs.state.Lenses.{LogicalSet, logical_lens}
@@ -31,7 +32,7 @@ use Rattle.filer_state.specs.laws.lemmas.Steps.{sound-later}
 use Rattle.filer_state.specs.attributes.lemmas.Getting.{node-at}
 use Rattle.filer_state.specs.nodes.Dropping.{Dropping}
 use Rattle.filer_state.specs.nodes.Sizing.{Sizing, all_freed, kind_sized}
-use Rattle.filer_state.specs.nodes.Laws.{WeighAlike, LosesName, IsEmptyKind, file_resized, file_seen}
+use Rattle.filer_state.specs.nodes.Laws.{WeighAlike, LosesName, file_resized, file_seen}
 use Rattle.filer_state.specs.nodes.lemmas.Sized.{sized_in, sound-sized}
 use Rattle.filer_state.specs.nodes.lemmas.SizedNodes.{volume-sized}
 use Rattle.filer_state.specs.nodes.lemmas.Emptied.{emptied-sized}
@@ -44,9 +45,9 @@ use Rattle.filer_state.specs.changes.lemmas.Setattr.{unchanged}
 use Rattle.filer_state.specs.changes.lemmas.Setting.{set-there}
 use Rattle.filer_state.specs.changes.lemmas.Gone.{remove-put, none-before, gone-right, parts-gone, used-gone}
 
-module _ (p : VolumeContents) (fileid : ℕ) (name : List ℕ) (moment : Moment) (inode : Inode) (parent subs : ℕ)
-    (here : IsDirectoryHere p fileid name moment inode parent subs) (child : HeldNode) (under : IsChildHere p fileid name child)
-    (size filled : ℕ) (verifier : Option (List ℕ)) (is_file : child.inode.kind ≡ RegularFile size filled verifier)
+module _ (p : VolumeContents) (fileid : ℕ) (name : List ℕ) (moment : Moment) (inode : Inode) (parent : ℕ)
+    (here : IsDirectoryHere p fileid name moment inode parent) (child : HeldNode) (under : IsChildHere p fileid name child)
+    (size filled : ℕ) (verifier : Option (List ℕ)) (is_file : IsFile child.inode.kind size filled verifier)
     (hands : List Hand) (made : ℕ) (sound : IsSound p hands made) where
   abbrev f : ℕ
   f = child.fileid
@@ -95,7 +96,7 @@ module _ (p : VolumeContents) (fileid : ℕ) (name : List ℕ) (moment : Moment)
   apart = ne_eqb fileid f (λ e.
       let same : Some inode ≡ Some child.inode = sym here.there ∙ ap (get p.logical.inodes.inodes) e ∙ under.node in
       let one : inode ≡ child.inode = cc in
-      let kinds : DirectoryKind parent subs ≡ RegularFile size filled verifier = sym here.kind ∙ ap (λ (i : Inode). i.kind) one ∙ is_file in
+      let parents : Some parent ≡ None = sym here.says ∙ ap (λ (i : Inode). parent_in i.kind) one ∙ ap parent_in is_file in
       absurd cc)
 
   pub loses : LosesName m q.logical.inodes q.logical.directories
@@ -106,7 +107,10 @@ module _ (p : VolumeContents) (fileid : ℕ) (name : List ℕ) (moment : Moment)
     found_there = under.found_there;
     is = under.is;
     node = there-emptied;
-    kind = empty child.inode.kind none-filled;
+    kind = (
+      subst (λ o. IfSome o (λ n. n ≡ 0)) (sym (ap (λ (k : InodeKind). size_in (kind_sized 0 (length (all_freed f 0 p.stripes)) k)) is_file)) refl,
+      none-filled,
+    );
     empty = λ d e.
         let as_directory : is_directory (get p.logical.inodes.inodes f) ≡ false =
         ap is_directory under.node ∙ ap (λ (k : InodeKind). is_some (parent_in k)) is_file in
@@ -114,11 +118,6 @@ module _ (p : VolumeContents) (fileid : ℕ) (name : List ℕ) (moment : Moment)
         let as_directories = sound.well_formed.logical.named.as_directories f in
         absurd cc;
   }
-    where
-      empty : (k : InodeKind) → filled_blocks (kind_sized 0 (length (all_freed f 0 p.stripes)) k) ≡ 0
-          → IsEmptyKind (kind_sized 0 (length (all_freed f 0 p.stripes)) k)
-      empty (RegularFile s n v) h = (refl, h)
-      empty (DirectoryKind up below) h = tt
 
   module _ (hands' : List Hand) (weigh : WeighAlike p.number hands hands') where
     abbrev after : VolumeContents
@@ -137,15 +136,15 @@ module _ (p : VolumeContents) (fileid : ℕ) (name : List ℕ) (moment : Moment)
     pub emptied : Emptied (used (volume_of p) - used (volume_of after)) (parts_of p) (parts_of after)
     emptied =
         subst (λ (n : ℕ). Emptied (used (volume_of p) - n) (parts_of p) (parts_of after))
-        (sym (used-gone q m loses parent subs here.kind hands hands made made (omega arith) (λ n. refl) sound-emptied))
+        (sym (used-gone q m loses parent here.says hands hands made made (omega arith) (λ n. refl) sound-emptied))
         (subst (Emptied (used (volume_of p) - used (volume_of q)) (parts_of p))
-        (sym (parts-gone q m loses parent subs here.kind hands hands made made (omega arith) (λ n. refl) sound-emptied))
+        (sym (parts-gone q m loses parent here.says hands hands made made (omega arith) (λ n. refl) sound-emptied))
         (emptied-sized p emptying hands sound.partition sound.well_formed under.node size filled verifier is_file (omega arith)))
 
     file-gone : (handle : List ℕ) (node : Affinity)
         → RightAs (remove_call handle node fileid name moment) p hands' (made + 1) (file_gone (naming_held p fileid name moment inode) child)
         (gone (naming_seen p fileid name moment inode parent) f)
-    file-gone handle node = gone-right p fileid name moment inode parent subs here left (logical_lens.of q) hands hands' made sound weigh
+    file-gone handle node = gone-right p fileid name moment inode parent here left (logical_lens.of q) hands hands' made sound weigh
         (remove_call handle node fileid name moment) loses sound-emptied seen-left emptied
 
 -- ---- the procedure
@@ -161,7 +160,7 @@ module _ (fileid : ℕ) (handle name : List ℕ) (node : Affinity) (moment : Mom
     failure : (status : Status) → Right (fails status (logical_lens.of p)) (Fails status)
     failure status = (refl, refl, unchanged p, sound-later p hands hands' made weigh sound)
 
-    module _ (inode : Inode) (parent subs : ℕ) (here : IsDirectoryHere p fileid name moment inode parent subs) where
+    module _ (inode : Inode) (parent : ℕ) (here : IsDirectoryHere p fileid name moment inode parent) where
       abbrev held : HeldNaming
       held = naming_held p fileid name moment inode
 
@@ -172,19 +171,19 @@ module _ (fileid : ℕ) (handle name : List ℕ) (node : Affinity) (moment : Mom
           → Right (remove_kind held child kind)
           (remove_node seen child.fileid (node_by p.stripes (get p.logical.directories child.fileid) child.fileid child.inode.attributes kind))
       by-kind child under (RegularFile size filled verifier) is =
-          file-gone p fileid name moment inode parent subs here child under size filled verifier is hands made sound hands' weigh handle node
+          file-gone p fileid name moment inode parent here child under size filled verifier is hands made sound hands' weigh handle node
       by-kind child under (DirectoryKind up below) is = failure _
 
       by-dots : (b : Bool) → Right (if b then fails Invalid (logical_lens.of p) else remove_by held (node_under held))
           (if b then Fails Invalid else remove_at seen (named_child seen))
       by-dots true = failure _
-      by-dots false = child-right p sound.well_formed fileid name moment inode parent subs here
+      by-dots false = child-right p sound.well_formed fileid name moment inode parent here
           (λ (c : Option HeldNode) (found : Option Found). Right (remove_by held c) (remove_at seen found))
           (λ absent. failure _) (λ child under. by-kind child under child.inode.kind refl)
 
     removes-right : Right (remove_done p.number fileid name moment (logical_lens.of p)) (call.run (volume_of p))
     removes-right = named-right p fileid name moment sound.well_formed Right held_remove remove_name failure
-        (λ inode parent subs here. by-dots inode parent subs here (is_dots name))
+        (λ inode parent here. by-dots inode parent here (is_dots name))
 
   -- REMOVE
   pub remove-done : (v : ℕ) (s : LogicalSet) → IsDone v call s (remove_done v fileid name moment s)

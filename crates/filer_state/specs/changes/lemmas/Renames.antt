@@ -15,7 +15,7 @@ use Rattle.nfs_model.specs.Serial.Rename as renames
 use Rattle.nfs_model.specs.Serial.Rename.{Renaming, Climb, PastIt, ToIt, TooFar, climb_fault, may_go, with_moved, with_entry, without_entry, renamed_volume}
 use Rattle.nfs_model.specs.Serial.Rename.{rename_told, same_told, is_same_entry, rename_at, rename_in}
 use Rattle.nfs_model.specs.Serial.Starve.{takes_memory}
-use Rattle.nfs_model.specs.volume.Inodes.{DirectoryKind, Inode}
+use Rattle.nfs_model.specs.volume.Inodes.{Inode}
 use Rattle.nfs_model.specs.volume.Directories.{found}
 use Rattle.nfs_model.specs.volume.lemmas.Directories.{same-is}
 use Rattle.filer_state.specs.state.Contents.{VolumeContents}
@@ -59,8 +59,8 @@ module _ (from to : List ℕ) (node : Affinity) (from_id : ℕ) (from_name : Lis
     checked (Some status) done effect right = failure status
 
     -- both directories are there
-    module _ (fi : Inode) (fp fs : ℕ) (here_from : IsDirectoryHere p from_id from_name moment fi fp fs)
-        (ti : Inode) (tp ts : ℕ) (here_to : IsDirectoryHere p to_id to_name moment ti tp ts) where
+    module _ (fi : Inode) (fp : ℕ) (here_from : IsDirectoryHere p from_id from_name moment fi fp)
+        (ti : Inode) (tp : ℕ) (here_to : IsDirectoryHere p to_id to_name moment ti tp) where
       abbrev h : HeldRenaming
       h = record { from = naming_held p from_id from_name moment fi; to = naming_held p to_id to_name moment ti }
 
@@ -72,8 +72,8 @@ module _ (from to : List ℕ) (node : Affinity) (from_id : ℕ) (from_name : Lis
           → is_some (get set.own.directories from_id) ≡ true → is_some (get set.own.directories to_id) ≡ true
           → (held_renamed h set).answer ≡ RenameDone (renames.directory_change r.from new) (renames.directory_change r.to new)
       told set new well is from_some to_some =
-          let f0 = ap before_of (sym (before-shown p from_id from_name moment sound.well_formed fi fp fs here_from)) in
-          let t0 = ap before_of (sym (before-shown p to_id to_name moment sound.well_formed ti tp ts here_to)) in
+          let f0 = ap before_of (sym (before-shown p from_id from_name moment sound.well_formed fi fp here_from)) in
+          let t0 = ap before_of (sym (before-shown p to_id to_name moment sound.well_formed ti tp here_to)) in
           let f1 = sym (directory-told (logical_lens.put set p) well h.from new r.from.directory is from_some) in
           let t1 = sym (directory-told (logical_lens.put set p) well h.to new r.to.directory is to_some) in
           λ j. RenameDone (record { before = f0 j; after = f1 j }) (record { before = t0 j; after = t1 j })
@@ -113,7 +113,7 @@ module _ (from to : List ℕ) (node : Affinity) (from_id : ℕ) (from_name : Lis
             )
 
         to-directory : is_directory (get p.logical.inodes.inodes to_id) ≡ true
-        to-directory = ap (λ (i : Option Inode). is_directory i) here_to.there ∙ ap (λ k. is_some (parent_in k)) here_to.kind
+        to-directory = ap (λ (i : Option Inode). is_directory i) here_to.there ∙ ap (λ (o : Option ℕ). is_some o) here_to.says
 
         clear : held_above h child.fileid child.inode.kind ≡ PastIt
             → (k : ℕ) → (directory_above p.logical.inodes.inodes k to_id == child.fileid) ≡ false
@@ -126,10 +126,10 @@ module _ (from to : List ℕ) (node : Affinity) (from_id : ℕ) (from_name : Lis
           sound = sound;
           volume = refl;
           may = record {
-            from_says = ap parent_directory here_from.there ∙ ap parent_in here_from.kind;
+            from_says = ap parent_directory here_from.there ∙ here_from.says;
             from_entered = here_from.entered;
             under = under;
-            to_says = ap parent_directory here_to.there ∙ ap parent_in here_to.kind;
+            to_says = ap parent_directory here_to.there ∙ here_to.says;
             to_entered = here_to.entered;
             absent = absent;
             clear = clear passes;
@@ -171,16 +171,16 @@ module _ (from to : List ℕ) (node : Affinity) (from_id : ℕ) (from_name : Lis
 
         -- by whether there is a target
         target-right : Right (rename_by h (Some child) (node_under h.to)) (rename_at r (Some (found_seen p child)) (named_child r.to))
-        target-right = child-right p sound.well_formed to_id to_name moment ti tp ts here_to
+        target-right = child-right p sound.well_formed to_id to_name moment ti tp here_to
             (λ (o : Option HeldNode) (x : Option Found). Right (rename_by h (Some child) o) (rename_at r (Some (found_seen p child)) x))
             (λ absent. there-right None None refl (λ one met may. moved-right (logical_lens.of p) None (free-none absent met)))
             (λ target upon. there-right (Some target) (Some (found_seen p target)) (may-go-seen p child target)
             (λ one met may. moved-right (target_gone h.to (Some target)) (Some (found_seen p target))
-            (free-by p hands made sound from_id from_name to_id to_name moment fi fp fs here_from ti tp ts here_to child under target upon one
+            (free-by p hands made sound from_id from_name to_id to_name moment fi fp here_from ti tp here_to child under target upon one
             (clear met) target.inode.kind refl may)))
 
       child-there : Right (rename_by h (node_under h.from) (node_under h.to)) (rename_at r (named_child r.from) (named_child r.to))
-      child-there = child-right p sound.well_formed from_id from_name moment fi fp fs here_from
+      child-there = child-right p sound.well_formed from_id from_name moment fi fp here_from
           (λ (o : Option HeldNode) (x : Option Found). Right (rename_by h o (node_under h.to)) (rename_at r x (named_child r.to)))
           (λ absent. failure _) (λ child under. target-right child under)
 
@@ -192,18 +192,18 @@ module _ (from to : List ℕ) (node : Affinity) (from_id : ℕ) (from_name : Lis
       names-right : Right (held_rename h) (rename_in r)
       names-right = checked (name_fault from_name) _ _ (checked (name_fault to_name) _ _ (by-dots (is_dots from_name || is_dots to_name)))
 
-    here : (fileid : ℕ) (name : List ℕ) (inode : Inode) (parent subs : ℕ) → get p.logical.inodes.inodes fileid ≡ Some inode
-        → inode.kind ≡ DirectoryKind parent subs → IsDirectoryHere p fileid name moment inode parent subs
-    here fileid name inode parent subs there is = record {
+    here : (fileid : ℕ) (name : List ℕ) (inode : Inode) (parent : ℕ) → get p.logical.inodes.inodes fileid ≡ Some inode
+        → parent_in inode.kind ≡ Some parent → IsDirectoryHere p fileid name moment inode parent
+    here fileid name inode parent there says = record {
       there = there;
-      kind = is;
-      entered = entered-here p fileid name moment sound.well_formed inode parent subs there is;
+      says = says;
+      entered = entered-here p fileid name moment sound.well_formed inode parent there says;
     }
 
     renames-right : Right (rename_done p.number from_id from_name to_id to_name moment (logical_lens.of p)) (call.run (volume_of p))
-    renames-right = directory-right p from_id Right _ _ failure (λ fi fp fs there is.
-        directory-right p to_id Right _ _ failure (λ ti tp ts to_there to_is.
-        names-right fi fp fs (here from_id from_name fi fp fs there is) ti tp ts (here to_id to_name ti tp ts to_there to_is)))
+    renames-right = directory-right p from_id Right _ _ failure (λ fi fp there is.
+        directory-right p to_id Right _ _ failure (λ ti tp to_there to_is.
+        names-right fi fp (here from_id from_name fi fp there is) ti tp (here to_id to_name ti tp to_there to_is)))
 
   -- RENAME
   pub rename-is-done : (v : ℕ) (s : LogicalSet) → IsDone v call s (rename_done v from_id from_name to_id to_name moment s)

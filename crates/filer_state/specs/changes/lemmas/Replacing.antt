@@ -18,12 +18,14 @@ use Rattle.nfs_model.specs.volume.lemmas.Numbered.{get-remove_at}
 use Rattle.filer_state.specs.state.Contents.{VolumeContents}
 use Rattle.filer_state.specs.state.Tree.{directory_or_empty, volume_of}
 use Rattle.filer_state.specs.state.Names.{parent_in, directory_above}
+use Rattle.filer_state.specs.state.Kinds.{IsFile}
 use Rattle.filer_state.specs.state.Partition.{parts_of}
 use Rattle.filer_state.specs.state.Sound.{IsSound}
 use Rattle.filer_state.specs.state.Lenses.{logical_lens}
 use Rattle.filer_state.specs.attributes.lemmas.Setattr.{emptied-none}
 use Rattle.filer_state.specs.names.Answers.{entries_of}
-use Rattle.filer_state.specs.nodes.Dropping.{Dropping}
+use Rattle.filer_state.specs.nodes.Dropping.{Dropping, node_dropped}
+use Rattle.filer_state.specs.nodes.Sizing.{file_sized}
 use Rattle.filer_state.specs.nodes.Laws.{LosesName, IsEmptyKind}
 use Rattle.filer_state.specs.nodes.lemmas.Sized.{sized_in}
 use Rattle.filer_state.specs.changes.Named.{HeldNaming, HeldNode}
@@ -47,8 +49,8 @@ pub record IsFree (p q : VolumeContents) (from to : HeldNaming) (child : HeldNod
 
 module _ (p : VolumeContents) (hands : List Hand) (made : ℕ) (sound : IsSound p hands made)
     (from_id : ℕ) (from_name : List ℕ) (to_id : ℕ) (to_name : List ℕ) (moment : Moment)
-    (fi : Inode) (fp fs : ℕ) (here_from : IsDirectoryHere p from_id from_name moment fi fp fs)
-    (ti : Inode) (tp ts : ℕ) (here_to : IsDirectoryHere p to_id to_name moment ti tp ts)
+    (fi : Inode) (fp : ℕ) (here_from : IsDirectoryHere p from_id from_name moment fi fp)
+    (ti : Inode) (tp : ℕ) (here_to : IsDirectoryHere p to_id to_name moment ti tp)
     (child : HeldNode) (under : IsChildHere p from_id from_name child) (target : HeldNode) (upon : IsChildHere p to_id to_name target)
     (two : ((from_id == to_id) && same_name from_name to_name) ≡ false)
     (clear : (k : ℕ) → (directory_above p.logical.inodes.inodes k to_id == child.fileid) ≡ false) where
@@ -77,12 +79,12 @@ module _ (p : VolumeContents) (hands : List Hand) (made : ℕ) (sound : IsSound 
   target-left = λ j. record (volume_of p) {
     nodes = sym (changed-there (in_directory (λ d. dropped_name d to_name moment)) to_id (remove (volume_of p).nodes t) (Directory to_seen.directory)
         (get-remove_at (volume_of p).nodes t to_id ∙ ap (λ (b : Bool). if b then None else get (volume_of p).nodes to_id) not-to
-        ∙ directory-seen p to_id ti tp here_to.there (ap parent_in here_to.kind))) j;
+        ∙ directory-seen p to_id ti tp here_to.there here_to.says)) j;
   }
 
   -- ---- a file
 
-  module _ (size filled : ℕ) (verifier : Option (List ℕ)) (is_file : target.inode.kind ≡ RegularFile size filled verifier) where
+  module _ (size filled : ℕ) (verifier : Option (List ℕ)) (is_file : IsFile target.inode.kind size filled verifier) where
     abbrev left : HeldNode
     left = child_emptied target (logical_lens.of p)
 
@@ -96,30 +98,30 @@ module _ (p : VolumeContents) (hands : List Hand) (made : ℕ) (sound : IsSound 
     file-not-from = ne_eqb from_id t (λ (e : from_id ≡ t).
         let same : Some fi ≡ Some target.inode = sym here_from.there ∙ ap (get p.logical.inodes.inodes) e ∙ upon.node in
         let one : fi ≡ target.inode = cc in
-        let kinds : DirectoryKind fp fs ≡ RegularFile size filled verifier = sym here_from.kind ∙ ap (λ (i : Inode). i.kind) one ∙ is_file in
+        let parents : Some fp ≡ None = sym here_from.says ∙ ap (λ (i : Inode). parent_in i.kind) one ∙ ap parent_in is_file in
         absurd cc)
 
     sound-q : IsSound q hands made
-    sound-q = removing.sound-emptied p to_id to_name moment ti tp ts here_to target upon size filled verifier is_file hands made sound
+    sound-q = removing.sound-emptied p to_id to_name moment ti tp here_to target upon size filled verifier is_file hands made sound
 
     loses-q : LosesName d q.logical.inodes q.logical.directories
-    loses-q = removing.loses p to_id to_name moment ti tp ts here_to target upon size filled verifier is_file hands made sound
+    loses-q = removing.loses p to_id to_name moment ti tp here_to target upon size filled verifier is_file hands made sound
 
-    file-free : Free (logical_lens.put (target_dropped to target (RegularFile size filled verifier)) p)
+    file-free : Free (logical_lens.put (node_dropped d (file_sized (emptying_of target) to.set)) p)
     file-free = record {
-      sound = sound-gone q d loses-q tp ts here_to.kind hands hands made made (omega arith) (λ n. refl) sound-q;
-      volume = volume-gone q d loses-q tp ts here_to.kind hands hands made made (omega arith) (λ n. refl) sound-q
-          ∙ removing.seen-left p to_id to_name moment ti tp ts here_to target upon size filled verifier is_file hands made sound hands (λ n. refl)
+      sound = sound-gone q d loses-q tp here_to.says hands hands made made (omega arith) (λ n. refl) sound-q;
+      volume = volume-gone q d loses-q tp here_to.says hands hands made made (omega arith) (λ n. refl) sound-q
+          ∙ removing.seen-left p to_id to_name moment ti tp here_to target upon size filled verifier is_file hands made sound hands (λ n. refl)
           ∙ target-left;
-      may = may-move p sound.well_formed from_id from_name to_id to_name moment fi fp fs here_from ti tp ts here_to child under target upon two
+      may = may-move p sound.well_formed from_id from_name to_id to_name moment fi fp here_from ti tp here_to child under target upon two
           left.inode q loses-q sound-q.well_formed.logical.named (λ x ne. inode-set-other p.logical.inodes t left.inode x ne) (λ x. refl)
           file-not-from clear;
-      emptied = removing.emptied p to_id to_name moment ti tp ts here_to target upon size filled verifier is_file hands made sound hands (λ n. refl);
+      emptied = removing.emptied p to_id to_name moment ti tp here_to target upon size filled verifier is_file hands made sound hands (λ n. refl);
     }
 
-  -- ---- a directory
+  -- ---- what has no bytes, and no entries
 
-  module _ (up below : ℕ) (is_directory : target.inode.kind ≡ DirectoryKind up below) (none : (entries_of p.logical t).list ≡ []) where
+  module _ (empty : IsEmptyKind target.inode.kind) (none : (entries_of p.logical t).list ≡ []) where
     abbrev e : Dropping
     e = dropping_of to target
 
@@ -131,27 +133,27 @@ module _ (p : VolumeContents) (hands : List Hand) (made : ℕ) (sound : IsSound 
       found_there = upon.found_there;
       is = upon.is;
       node = upon.node;
-      kind = subst IsEmptyKind (sym is_directory) tt;
+      kind = empty;
       empty = λ x h. ap (λ o. (directory_or_empty o).list) (sym h) ∙ none;
     }
 
     -- the other directory isn't empty
-    directory-not-from : (from_id == t) ≡ false
-    directory-not-from = ne_eqb from_id t (λ (h : from_id ≡ t).
+    empty-not-from : (from_id == t) ≡ false
+    empty-not-from = ne_eqb from_id t (λ (h : from_id ≡ t).
         let list : (entries_of p.logical from_id).list ≡ [] = ap (λ (x : ℕ). (entries_of p.logical x).list) h ∙ none in
         let nothing : Some under.entry ≡ None = sym under.found_there ∙ ap (λ (l : List Listed). found (record { next = 0; list = l }) from_name) list in
         absurd cc)
 
-    directory-free : Free (logical_lens.put (target_dropped to target (DirectoryKind up below)) p)
-    directory-free =
-        let parts = parts-gone p e loses tp ts here_to.kind hands hands made made (omega arith) (λ n. refl) sound in
-        let same = used-gone p e loses tp ts here_to.kind hands hands made made (omega arith) (λ n. refl) sound in
+    empty-free : Free (logical_lens.put (node_dropped e to.set) p)
+    empty-free =
+        let parts = parts-gone p e loses tp here_to.says hands hands made made (omega arith) (λ n. refl) sound in
+        let same = used-gone p e loses tp here_to.says hands hands made made (omega arith) (λ n. refl) sound in
         record {
-          sound = sound-gone p e loses tp ts here_to.kind hands hands made made (omega arith) (λ n. refl) sound;
-          volume = volume-gone p e loses tp ts here_to.kind hands hands made made (omega arith) (λ n. refl) sound ∙ target-left;
-          may = may-move p sound.well_formed from_id from_name to_id to_name moment fi fp fs here_from ti tp ts here_to child under target upon two
-              target.inode p loses sound.well_formed.logical.named (λ x ne. refl) (λ x. refl) directory-not-from clear;
-          emptied = emptied-none (parts_of p) (parts_of (logical_lens.put (target_dropped to target (DirectoryKind up below)) p)) _ (omega (arith, same))
+          sound = sound-gone p e loses tp here_to.says hands hands made made (omega arith) (λ n. refl) sound;
+          volume = volume-gone p e loses tp here_to.says hands hands made made (omega arith) (λ n. refl) sound ∙ target-left;
+          may = may-move p sound.well_formed from_id from_name to_id to_name moment fi fp here_from ti tp here_to child under target upon two
+              target.inode p loses sound.well_formed.logical.named (λ x ne. refl) (λ x. refl) empty-not-from clear;
+          emptied = emptied-none (parts_of p) (parts_of (logical_lens.put (node_dropped e to.set) p)) _ (omega (arith, same))
               (ap (λ x. x.files) parts) (ap (λ x. x.dead) parts) (ap (λ x. x.stock) parts) (ap (λ x. x.free) parts);
         }
 
@@ -163,10 +165,10 @@ module _ (p : VolumeContents) (hands : List Hand) (made : ℕ) (sound : IsSound 
 
   none-there : (moved : InodeKind) (up below : ℕ) → renaming.may_replace (logical_lens.of p) moved t (DirectoryKind up below) ≡ true
       → (entries_of p.logical t).list ≡ []
-  none-there (RegularFile size filled verifier) up below h = absurd cc
   none-there (DirectoryKind old subs) up below h = empty-is (entries_of p.logical t).list h
+  none-there moved up below h = absurd cc
 
   pub free-by : (kind : InodeKind) → target.inode.kind ≡ kind → renaming.may_replace (logical_lens.of p) child.inode.kind t kind ≡ true
       → Free (logical_lens.put (target_dropped to target kind) p)
   free-by (RegularFile size filled verifier) is may = file-free size filled verifier is
-  free-by (DirectoryKind up below) is may = directory-free up below is (none-there child.inode.kind up below may)
+  free-by (DirectoryKind up below) is may = empty-free (subst IsEmptyKind (sym is) (tt, refl)) (none-there child.inode.kind up below may)

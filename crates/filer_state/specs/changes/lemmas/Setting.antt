@@ -8,18 +8,19 @@ use Rattle.std.specs.Option.{option_map}
 use Rattle.std.specs.FinMap.{get, insert}
 use Rattle.std.specs.FinSet.{from_list}
 use Rattle.nfs_model.specs.Types.{Moment, SetAttributes, NotSynchronous, Invalid, TooBig}
-use Rattle.nfs_model.specs.Server.{Attributes, Node, File, Directory, VolumeState, used}
+use Rattle.nfs_model.specs.Server.{Attributes, Node, File, VolumeState, used}
 use Rattle.nfs_model.specs.Shown.{shown, times, settled}
 use Rattle.nfs_model.specs.Serial.Rights.{ownership_of}
 use Rattle.nfs_model.specs.Serial.Setattr.{is_stale_guard, has_bad_time, is_past, resized, set_attributes, set_node, setattr_fault, with_node}
 use Rattle.nfs_model.specs.Moves.{Emptied}
 use Rattle.nfs_model.specs.Parts.{Hand}
-use Rattle.nfs_model.specs.volume.Inodes.{InodeKind, RegularFile, DirectoryKind, Inode}
+use Rattle.nfs_model.specs.volume.Inodes.{InodeKind, RegularFile, Inode}
 use Rattle.nfs_model.specs.volume.Stripes.{OfFile, StripeValue, touch_of}
 use Rattle.nfs_model.specs.volume.lemmas.Inodes.{inode-set-there, inode-set-other, next-set, used-set-same}
 use Rattle.nfs_model.specs.volume.lemmas.Numbered.{get-insert_at, itself}
 use Rattle.filer_state.specs.state.Contents.{VolumeContents}
 use Rattle.filer_state.specs.state.Tree.{file_touch, later, node_by, node_of, volume_of}
+use Rattle.filer_state.specs.state.Kinds.{IsFile}
 use Rattle.filer_state.specs.state.WellFormed.{WellFormed}
 use Rattle.filer_state.specs.state.Partition.{parts_of, numbers_in, all_numbers}
 use Rattle.filer_state.specs.state.Sound.{IsSound}
@@ -50,7 +51,7 @@ module _ (p : VolumeContents) (f : ℕ) (set : SetAttributes) (old : Inode) wher
       by : (kind : InodeKind) → times (node_by p.stripes (get p.logical.directories f) f old.attributes kind)
           ≡ attributes_now (file_touch p.stripes f) old.attributes kind
       by (RegularFile size filled verifier) = refl
-      by (DirectoryKind parent subdirectories) = refl
+      by kind = refl
 
   -- the first check that fails is the serial server's
   pub fault-is : (guard : Option Moment) → setattr_fault (volume_of p) set guard was ≡ node_fault f set guard old (logical_lens.of p)
@@ -59,7 +60,7 @@ module _ (p : VolumeContents) (f : ℕ) (set : SetAttributes) (old : Inode) wher
       by : (kind : InodeKind) → setattr_fault (volume_of p) set guard (node_by p.stripes (get p.logical.directories f) f old.attributes kind)
           ≡ set_fault p.logical.largest set guard (attributes_now (file_touch p.stripes f) old.attributes kind).ctime kind
       by (RegularFile size filled verifier) = refl
-      by (DirectoryKind parent subdirectories) = refl
+      by kind = refl
 
 -- where no check fails
 all-pass : (a b c d : Bool)
@@ -76,7 +77,7 @@ pub record MaySize (largest size : ℕ) (kind : InodeKind) : Type 0 where
   pub old_size : ℕ
   pub filled : ℕ
   pub verifier : Option (List ℕ)
-  pub is_file : kind ≡ RegularFile old_size filled verifier
+  pub is_file : IsFile kind old_size filled verifier
   pub small : size ≤ largest
 
 may-size : (largest size : ℕ) (set : SetAttributes) (guard : Option Moment) (ctime : Moment) (kind : InodeKind)
@@ -90,7 +91,7 @@ may-size largest size set guard ctime kind asked passes =
 
     by : (k : InodeKind) → is_directory_sized k (Some size) ≡ false → nat_lt largest size ≡ false → MaySize largest size k
     by (RegularFile s n verifier) a b = record { old_size = s; filled = n; verifier = verifier; is_file = refl; small = fits b }
-    by (DirectoryKind parent subdirectories) a b = absurd cc
+    by k a b = absurd cc
 
 -- ---- a node set
 
@@ -141,7 +142,7 @@ module _ (p : VolumeContents) (f : ℕ) (set : SetAttributes) (moment : Moment) 
       where
         by : (n : Node) → with_attributes (set_attributes set moment (times n)) n ≡ set_node set moment n
         by (File g) = ap (λ o. File (record (resized o (settled g)) { attributes = set_attributes set moment (settled g).attributes })) (sym unsized)
-        by (Directory d) = refl
+        by n = refl
 
     numbers-stay : (stripes : List StripeValue) → all_numbers (stripes_settled f (ownership_of next.attributes) stripes) ≡ all_numbers stripes
     numbers-stay [] = refl

@@ -13,7 +13,7 @@ use Rattle.nfs_model.specs.volume.lemmas.Directories.{same-turned, found-removed
 use Rattle.nfs_model.specs.volume.lemmas.Numbered.{itself}
 use Rattle.filer_state.specs.state.Contents.{VolumeContents}
 use Rattle.filer_state.specs.state.Tree.{directory_or_empty}
-use Rattle.filer_state.specs.state.Names.{InodeMap, parent_in, parent_directory, parent_or, is_named, times_in_list, times_named, directory_above, AreNamed}
+use Rattle.filer_state.specs.state.Names.{InodeMap, parent_directory, parent_or, is_named, times_in_list, times_named, directory_above, AreNamed}
 use Rattle.filer_state.specs.state.WellFormed.{WellFormed}
 use Rattle.filer_state.specs.names.Answers.{entries_of}
 use Rattle.filer_state.specs.nodes.Dropping.{Dropping}
@@ -48,8 +48,8 @@ above-gone new old t c same none other (suc n) q clear = by (q == t) refl (above
         ∙ further (parent_or (parent_directory (get old q)) q) (λ k. clear (suc k))
 
 module _ (p : VolumeContents) (well : WellFormed p) (from_id : ℕ) (from_name : List ℕ) (to_id : ℕ) (to_name : List ℕ) (moment : Moment)
-    (fi : Inode) (fp fs : ℕ) (here_from : IsDirectoryHere p from_id from_name moment fi fp fs)
-    (ti : Inode) (tp ts : ℕ) (here_to : IsDirectoryHere p to_id to_name moment ti tp ts)
+    (fi : Inode) (fp : ℕ) (here_from : IsDirectoryHere p from_id from_name moment fi fp)
+    (ti : Inode) (tp : ℕ) (here_to : IsDirectoryHere p to_id to_name moment ti tp)
     (child : HeldNode) (under : IsChildHere p from_id from_name child) (target : HeldNode) (upon : IsChildHere p to_id to_name target)
     (two : ((from_id == to_id) && same_name from_name to_name) ≡ false) where
   abbrev c : ℕ
@@ -178,7 +178,7 @@ module _ (p : VolumeContents) (well : WellFormed p) (from_id : ℕ) (from_name :
 
     pub may-move : MayMove after from to child fp tp
     may-move = record {
-      from_says = parents from_id not_from ∙ ap parent_directory here_from.there ∙ ap parent_in here_from.kind;
+      from_says = parents from_id not_from ∙ ap parent_directory here_from.there ∙ here_from.says;
       from_entered = or-empty (get after.logical.directories from_id) from-found.0;
       under = record {
         entry = under.entry;
@@ -187,7 +187,7 @@ module _ (p : VolumeContents) (well : WellFormed p) (from_id : ℕ) (from_name :
         node = gone.at-other q.logical.inodes q.logical.directories d loses c not-to other-node ∙ same c other-node ∙ under.node;
       };
       to_says =
-          parents to_id (gone.apart q.logical.inodes q.logical.directories d loses) ∙ ap parent_directory here_to.there ∙ ap parent_in here_to.kind;
+          parents to_id (gone.apart q.logical.inodes q.logical.directories d loses) ∙ ap parent_directory here_to.there ∙ here_to.says;
       to_entered = or-empty (get after.logical.directories to_id) (ap (λ o. is_some o) to-entries);
       absent =
           ap (λ o. found (directory_or_empty o) to_name) to-entries ∙ found-removed (entries_of p.logical to_id) to_name;

@@ -13,7 +13,7 @@ use Rattle.nfs_model.specs.Server.{Node, filled_in, blocks_of, used}
 use Rattle.nfs_model.specs.Parts as parts
 use Rattle.nfs_model.specs.Parts.{Hand, one_if, times_listed}
 use Rattle.depot_rule.specs.Sums.{total}
-use Rattle.nfs_model.specs.volume.Inodes.{InodeKind, RegularFile, DirectoryKind, Inode, filled_blocks, blocks_filled}
+use Rattle.nfs_model.specs.volume.Inodes.{InodeKind, RegularFile, Inode, filled_blocks, blocks_filled}
 use Rattle.nfs_model.specs.volume.Stripes.{FileBlock, Block, StripeValue}
 use Rattle.nfs_model.specs.volume.Ranges.{RangeValue}
 use Rattle.filer_state.specs.state.Contents.{VolumeContents}
@@ -116,7 +116,7 @@ module _ (p : VolumeContents) (well : WellFormed p) where
       by : (kind : InodeKind) → filled_blocks kind ≡ sets.len (file_filled p.stripes fileid)
           → filled_in (node_by p.stripes (get p.logical.directories fileid) fileid inode.attributes kind) ≡ filled_blocks kind
       by (RegularFile size filled verifier) e = sym e
-      by (DirectoryKind parent subdirectories) e = refl
+      by kind e = refl
 
   -- the model's used blocks are the used count
   pub used-is : used (volume_of p) ≡ p.logical.inodes.used

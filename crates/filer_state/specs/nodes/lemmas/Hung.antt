@@ -4,15 +4,17 @@ use Rattle.std.proofs.Common.{refl, sym, ap, ◌∙◌, subst, arith, eq-eqb, ne
 use Rattle.std.specs.Prelude.{if◌then◌else◌, is_some, IfSome}
 use Rattle.std.proofs.lemmas.Bool.{eqb-true}
 use Rattle.std.specs.List.{AllByRecursion}
+use Rattle.std.specs.Option.{option_map}
 use Rattle.std.specs.FinMap.{get, nat_cmp-IsAntisymmetric}
 use Rattle.nfs_model.specs.Types.{Moment, Listed}
 use Rattle.nfs_model.specs.Parts.{one_if}
 use Rattle.nfs_model.specs.volume.Directories.{DirectoryValue, added, entry_added}
-use Rattle.nfs_model.specs.volume.Inodes.{InodeKind, RegularFile, DirectoryKind, Inode, InodesValue, inode_of, inode_set}
+use Rattle.nfs_model.specs.volume.Inodes.{InodeKind, Inode, InodesValue, inode_of, inode_set}
 use Rattle.nfs_model.specs.volume.lemmas.Inodes.{inode-set-there, inode-set-other}
 use Rattle.nfs_model.specs.volume.lemmas.Numbered.{get-insert_at, itself}
 use Rattle.filer_state.specs.state.Names.{root, DirectoryMap, parent_in, parent_directory, subdirectories_in, subdirectories_of, is_directory, parent_or}
 use Rattle.filer_state.specs.state.Names.{times_in_list, times_named, is_named, directories_listed, directory_above, DirectoryFits, ReachesRoot, AreNamed}
+use Rattle.filer_state.specs.laws.lemmas.InodeKinds as kinds
 use Rattle.filer_state.specs.laws.lemmas.Mapped.{entry-at-least}
 use Rattle.filer_state.specs.nodes.Making.{directories_in, with_subdirectories}
 use Rattle.filer_state.specs.nodes.Moving.{Naming, dated_inode, with_parent, node_hung, inodes_hung, entries_hung}
@@ -25,12 +27,13 @@ use Rattle.filer_state.specs.nodes.lemmas.Named.{parent-kept, counted-more}
 use Rattle.filer_state.specs.nodes.lemmas.Untied.{AreNamedBut}
 
 some-with_parent : (p : ℕ) (k : InodeKind) → is_some (parent_in (with_parent p k)) ≡ is_some (parent_in k)
-some-with_parent p (RegularFile size filled verifier) = refl
-some-with_parent p (DirectoryKind parent subdirectories) = refl
+some-with_parent p k = kinds.some-kept (λ old. p) (λ n. n) k
 
 counted-with_parent : (p : ℕ) (k : InodeKind) → subdirectories_in (with_parent p k) ≡ subdirectories_in k
-counted-with_parent p (RegularFile size filled verifier) = refl
-counted-with_parent p (DirectoryKind parent subdirectories) = refl
+counted-with_parent p k = kinds.count-kept (λ old. p) k
+
+parent-with_parent : (p : ℕ) (k : InodeKind) → parent_in (with_parent p k) ≡ option_map (λ old. p) (parent_in k)
+parent-with_parent p k = kinds.parent-changed (λ old. p) (λ n. n) k
 
 module _ (old : InodesValue) (directories : DirectoryMap) (m : Naming) (touch : Option Moment) (may : MayHang m old directories) where
   abbrev new : InodesValue
@@ -165,16 +168,12 @@ module _ (old : InodesValue) (directories : DirectoryMap) (m : Naming) (touch : 
 
     -- ---- what holds of each
 
-    kind-directory : (k : InodeKind) → one_if (is_some (parent_in k)) ≡ directories_in k
-    kind-directory (RegularFile size filled verifier) = refl
-    kind-directory (DirectoryKind parent subdirectories) = refl
-
     last-child : IsChildOf new.inodes m.directory last
-    last-child = subst (λ o. IfSome (parent_directory o) (λ parent. parent ≡ m.directory)) (sym hung-node) (by m.node.kind)
+    last-child = subst (λ o. IfSome o (λ parent. parent ≡ m.directory)) (sym (ap parent_directory hung-node ∙ parent-with_parent m.directory m.node.kind)) (by (parent_in m.node.kind))
       where
-        by : (k : InodeKind) → IfSome (parent_in (with_parent m.directory k)) (λ parent. parent ≡ m.directory)
-        by (RegularFile size filled verifier) = tt
-        by (DirectoryKind parent subdirectories) = refl
+        by : (o : Option ℕ) → IfSome (option_map (λ old. m.directory) o) (λ parent. parent ≡ m.directory)
+        by None = tt
+        by (Some parent) = refl
 
     fits-directory : DirectoryFits new.inodes m.directory (added m.name m.fileid m.entries)
     fits-directory =
@@ -189,7 +188,7 @@ module _ (old : InodesValue) (directories : DirectoryMap) (m : Naming) (touch : 
           links =
               let more = counted-more (directories_in m.node.kind) (directories_listed old.inodes m.entries.list) m.inode.kind old_links in
               let one : one_if (is_directory (inode_of new m.fileid)) ≡ directories_in m.node.kind =
-              ap one_if (directory-same m.fileid) ∙ ap (λ o. one_if (is_directory o)) may.node ∙ kind-directory m.node.kind in
+              ap one_if (directory-same m.fileid) ∙ ap (λ o. one_if (is_directory o)) may.node in
               let sum : directories_listed new.inodes (added m.name m.fileid m.entries).list
               ≡ directories_listed old.inodes m.entries.list + directories_in m.node.kind =
               count-more (λ (e : Listed). is_directory (get new.inodes e.fileid)) m.entries.list last
@@ -227,14 +226,14 @@ module _ (old : InodesValue) (directories : DirectoryMap) (m : Naming) (touch : 
         (was.0, above-clear was.0 m.directory may.clear ∙ was.1)
 
     -- the node itself, which has its parent now there; a file has none, and is nobody's parent
-    reaches-node : (k : InodeKind) → m.node.kind ≡ k → (n : ℕ) → directory_above old.inodes n m.fileid ≡ root → ReachesRoot new.inodes m.fileid
-    reaches-node (DirectoryKind parent subdirectories) is n h =
+    reaches-node : (o : Option ℕ) → parent_in m.node.kind ≡ o → (n : ℕ) → directory_above old.inodes n m.fileid ≡ root → ReachesRoot new.inodes m.fileid
+    reaches-node (Some parent) is n h =
         let up : parent_directory (inode_of new m.fileid) ≡ Some m.directory = ap parent_directory hung-node
-        ∙ ap (λ k. parent_in (with_parent m.directory k)) is in
+        ∙ parent-with_parent m.directory m.node.kind ∙ ap (option_map (λ (old : ℕ). m.directory)) is in
         let there = reaches-directory in
         (suc there.0, ap (λ o. directory_above new.inodes there.0 (parent_or o m.fileid)) up ∙ there.1)
-    reaches-node (RegularFile size filled verifier) is n h =
-        let none : parent_directory (inode_of old m.fileid) ≡ None = ap parent_directory may.node ∙ ap parent_in is in
+    reaches-node None is n h =
+        let none : parent_directory (inode_of old m.fileid) ≡ None = ap parent_directory may.node ∙ is in
         let t : (m.fileid == root) ≡ true = eq-eqb m.fileid root (sym (stays none n) ∙ h) in
         let f = may.no_root in
         absurd cc
@@ -251,7 +250,7 @@ module _ (old : InodesValue) (directories : DirectoryMap) (m : Naming) (touch : 
         by true e further =
             let is : q ≡ m.fileid = eqb-true q m.fileid e in
             subst (ReachesRoot new.inodes) (sym is)
-            (reaches-node m.node.kind refl (suc n) (ap (directory_above old.inodes (suc n)) (sym is) ∙ h))
+            (reaches-node (parent_in m.node.kind) refl (suc n) (ap (directory_above old.inodes (suc n)) (sym is) ∙ h))
         by false e further =
             (suc further.0, ap (λ o. directory_above new.inodes further.0 (parent_or o q)) (parent-same q e) ∙ further.1)
 

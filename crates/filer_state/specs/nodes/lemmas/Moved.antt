@@ -9,12 +9,10 @@ use Rattle.std.specs.FinMap.{get, len}
 use Rattle.std.specs.FinSet as sets
 use Rattle.nfs_model.specs.Types.{Moment}
 use Rattle.nfs_model.specs.Server.{Attributes}
-use Rattle.nfs_model.specs.Shown.{effective_attributes}
-use Rattle.nfs_model.specs.Serial.Rights.{ownership_of}
 use Rattle.nfs_model.specs.Parts.{Hand}
 use Rattle.depot_rule.specs.Sums.{total}
 use Rattle.nfs_model.specs.volume.Directories.{DirectoryValue, added, removed}
-use Rattle.nfs_model.specs.volume.Inodes.{InodeKind, RegularFile, DirectoryKind, Inode, InodesValue, IsInodes, filled_blocks, inode_of, inode_set}
+use Rattle.nfs_model.specs.volume.Inodes.{InodeKind, Inode, InodesValue, IsInodes, filled_blocks, inode_of, inode_set}
 use Rattle.nfs_model.specs.volume.Stripes.{StripeValue, touch_taken}
 use Rattle.nfs_model.specs.volume.lemmas.Inodes.{len-set, set-is, next-set, used-set-same, inode-set-there, inode-set-other}
 use Rattle.filer_state.specs.state.Contents.{VolumeContents}
@@ -24,6 +22,7 @@ use Rattle.filer_state.specs.state.WellFormed.{StripeFits, WellFormed, owner_by,
 use Rattle.filer_state.specs.state.Partition.{times_in_stripe, times_in_hand}
 use Rattle.filer_state.specs.state.Sound.{IsSound}
 use Rattle.filer_state.specs.state.Changes.{attributes_now, touches_taken}
+use Rattle.filer_state.specs.laws.lemmas.InodeKinds as kinds
 use Rattle.filer_state.specs.laws.lemmas.SameBlocks as blocks
 use Rattle.filer_state.specs.attributes.lemmas.Kept.{shown-stays, owner-stays}
 use Rattle.filer_state.specs.nodes.Making.{directories_in, with_subdirectories}
@@ -176,40 +175,13 @@ module _ (p : VolumeContents) (inodes : InodesValue) (directories : DirectoryMap
 -- ---- a node moved
 
 size-with : (parent : ℕ) (k : InodeKind) → size_in (with_parent parent k) ≡ size_in k
-size-with parent (RegularFile size filled verifier) = refl
-size-with parent (DirectoryKind old subdirectories) = refl
+size-with parent k = kinds.size-changed (λ old. parent) (λ n. n) k
 
--- the owner stays: where a node settles and has another parent, and of a directory with more or fewer subdirectories
-owner-effective : (touch : Option Moment) (a : Attributes) → ownership_of (effective_attributes touch a) ≡ ownership_of a
-owner-effective None a = refl
-owner-effective (Some moment) a = refl
-
+-- the owner stays where a node settles and has another parent
 owner-with : (parent : ℕ) (touch : Option Moment) (moment : Moment) (a : Attributes) (k : InodeKind)
     → owner_by (record (attributes_now touch a k) { ctime = moment }) (with_parent parent k) ≡ owner_by a k
-owner-with parent touch moment a (RegularFile size filled verifier) = ap Some (owner-effective touch a)
-owner-with parent touch moment a (DirectoryKind old subdirectories) = refl
-
-owner-more : (more : ℕ) (a b : Attributes) → ownership_of b ≡ ownership_of a → (k : InodeKind)
-    → owner_by b (with_subdirectories more k) ≡ owner_by a k
-owner-more more a b is (RegularFile size filled verifier) = ap Some is
-owner-more more a b is (DirectoryKind parent subdirectories) = refl
-
-owner-less : (fewer : ℕ) (a b : Attributes) → ownership_of b ≡ ownership_of a → (k : InodeKind)
-    → owner_by b (without_subdirectories fewer k) ≡ owner_by a k
-owner-less fewer a b is (RegularFile size filled verifier) = ap Some is
-owner-less fewer a b is (DirectoryKind parent subdirectories) = refl
-
-filled-with : (parent : ℕ) (k : InodeKind) → filled_blocks (with_parent parent k) ≡ filled_blocks k
-filled-with parent (RegularFile size filled verifier) = refl
-filled-with parent (DirectoryKind old subdirectories) = refl
-
-filled-more : (more : ℕ) (k : InodeKind) → filled_blocks (with_subdirectories more k) ≡ filled_blocks k
-filled-more more (RegularFile size filled verifier) = refl
-filled-more more (DirectoryKind parent subdirectories) = refl
-
-filled-less : (fewer : ℕ) (k : InodeKind) → filled_blocks (without_subdirectories fewer k) ≡ filled_blocks k
-filled-less fewer (RegularFile size filled verifier) = refl
-filled-less fewer (DirectoryKind parent subdirectories) = refl
+owner-with parent touch moment a k = kinds.owner-alike a (record (attributes_now touch a k) { ctime = moment }) k (with_parent parent k)
+    (kinds.owner-now touch a k) (size-with parent k)
 
 module _ (p : VolumeContents) (from to : Naming) (well : WellFormed p)
     (stands : StandsUnder from p.logical.inodes p.logical.directories)
@@ -226,7 +198,9 @@ module _ (p : VolumeContents) (from to : Naming) (well : WellFormed p)
   same-taken : SameFiles taken p.logical.inodes
   same-taken = same-set p.logical.inodes from.directory from.inode untied well.logical.inodes stands.there
       (unnamed.size-kept (directories_in from.node.kind) from.inode.kind)
-      (owner-less (directories_in from.node.kind) from.inode.attributes untied.attributes refl from.inode.kind) (filled-less (directories_in from.node.kind) from.inode.kind)
+      (kinds.owner-alike from.inode.attributes untied.attributes from.inode.kind untied.kind refl
+      (unnamed.size-kept (directories_in from.node.kind) from.inode.kind))
+      (unnamed.blocks-kept (directories_in from.node.kind) from.inode.kind)
 
   abbrev dated : Inode
   dated = dated_inode to.moment (with_subdirectories (directories_in to.node.kind) to.inode.kind) to.inode
@@ -234,13 +208,16 @@ module _ (p : VolumeContents) (from to : Naming) (well : WellFormed p)
   same-dated : SameFiles (inode_set to.directory dated taken) taken
   same-dated = same-set taken to.directory to.inode dated (same-taken.lawful well.logical.inodes) may.there
       (made.size-kept (directories_in to.node.kind) to.inode.kind)
-      (owner-more (directories_in to.node.kind) to.inode.attributes dated.attributes refl to.inode.kind) (filled-more (directories_in to.node.kind) to.inode.kind)
+      (kinds.owner-alike to.inode.attributes dated.attributes to.inode.kind dated.kind refl
+      (made.size-kept (directories_in to.node.kind) to.inode.kind))
+      (made.blocks-kept (directories_in to.node.kind) to.inode.kind)
 
   same-hung : SameFiles (inodes_hung to touch taken) (inode_set to.directory dated taken)
   same-hung = same-set (inode_set to.directory dated taken) to.fileid to.node (node_hung to touch)
       (same-dated.lawful (same-taken.lawful well.logical.inodes))
       (still taken (entries_untied from p.logical.directories) to touch may) (size-with to.directory to.node.kind)
-      (owner-with to.directory touch to.moment to.node.attributes to.node.kind) (filled-with to.directory to.node.kind)
+      (owner-with to.directory touch to.moment to.node.attributes to.node.kind)
+      (kinds.blocks-changed (λ old. to.directory) (λ n. n) to.node.kind)
 
   same-all : SameFiles (inodes_hung to touch taken) p.logical.inodes
   same-all = same-then p.logical.inodes taken (inodes_hung to touch taken)

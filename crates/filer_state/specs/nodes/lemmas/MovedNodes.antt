@@ -3,43 +3,47 @@ use Rattle.std.proofs.Common.{◌≡◌, ℕ, ◌==◌, Bool, true, false, List,
 use Rattle.std.specs.Prelude.{if◌then◌else◌}
 use Rattle.std.proofs.lemmas.Bool.{eqb-true}
 use Rattle.std.specs.Option.{option_map}
+use Rattle.std.specs.Ordering.{nat_cmp}
+use Rattle.std.specs.FinSet.{FinSet}
 use Rattle.std.specs.Cmp.{nat_cmp_total}
 use Rattle.std.specs.FinMap.{get, insert, nat_cmp-IsAntisymmetric}
 use Rattle.nfs_model.specs.Types.{Moment}
-use Rattle.nfs_model.specs.Server.{Attributes, Node, File, Directory}
+use Rattle.nfs_model.specs.Server.{Attributes, Node, Directory}
 use Rattle.nfs_model.specs.Names.{with_name, dropped_name}
 use Rattle.nfs_model.specs.Serial.Rename.{moved_node}
 use Rattle.nfs_model.specs.volume.Directories.{DirectoryValue, added, removed}
-use Rattle.nfs_model.specs.volume.Inodes.{InodeKind, RegularFile, DirectoryKind, Inode, InodesValue, inode_of, inode_set}
+use Rattle.nfs_model.specs.volume.Inodes.{InodeKind, DirectoryKind, Inode, InodesValue, inode_of, inode_set}
 use Rattle.nfs_model.specs.volume.Stripes.{StripeValue}
 use Rattle.nfs_model.specs.volume.lemmas.Inodes.{inode-set-there, inode-set-other}
 use Rattle.nfs_model.specs.volume.lemmas.Maps.{get-map_values}
 use Rattle.nfs_model.specs.volume.lemmas.Numbered.{get-insert_at, same-answers, itself}
-use Rattle.filer_state.specs.state.Tree.{file_touch, directory_or_empty, node_by, node_of}
+use Rattle.filer_state.specs.state.Tree.{file_bytes, file_filled, file_touch, directory_or_empty, node_with, node_by, node_of}
 use Rattle.filer_state.specs.state.Names.{parent_in}
 use Rattle.filer_state.specs.state.Lenses.{LogicalSet}
 use Rattle.filer_state.specs.state.Changes.{attributes_now}
+use Rattle.filer_state.specs.laws.lemmas.InodeKinds.{directory-seen}
 use Rattle.filer_state.specs.attributes.lemmas.Kept.{bytes-stay, filled-stays, touch-gone, touch-stays}
 use Rattle.filer_state.specs.nodes.Making.{directories_in, with_subdirectories}
 use Rattle.filer_state.specs.nodes.Dropping.{without_subdirectories}
 use Rattle.filer_state.specs.nodes.Moving.{Naming, dated_inode, entry_taken, with_parent, node_hung, node_hung_up}
 use Rattle.filer_state.specs.nodes.Laws.{seen_directory, nodes_of}
+use Rattle.filer_state.specs.nodes.lemmas.Named as named
+use Rattle.filer_state.specs.nodes.lemmas.Unnamed as unnamed
 
 node-of-directory : (stripes : List StripeValue) (o : Option DirectoryValue) (d : DirectoryValue) (q : ℕ) (a : Attributes) (k : InodeKind) (parent : ℕ)
     → o ≡ Some d → parent_in k ≡ Some parent
     → node_by stripes o q a k ≡ Directory (record { attributes = a; parent = parent; next = d.next; list = d.list })
-node-of-directory stripes o d q a (RegularFile size filled verifier) parent is says = absurd cc
-node-of-directory stripes o d q a (DirectoryKind up subdirectories) parent is says =
-    let same : up ≡ parent = cc in
-    λ j. Directory (record { attributes = a; parent = same j; next = (directory_or_empty (is j)).next; list = (directory_or_empty (is j)).list })
+node-of-directory stripes o d q a k parent is says =
+    directory-seen stripes o q a k parent says
+    ∙ (λ j. Directory (record { attributes = a; parent = parent; next = (directory_or_empty (is j)).next; list = (directory_or_empty (is j)).list }))
 
-parent-less : (n : ℕ) (k : InodeKind) → parent_in (without_subdirectories n k) ≡ parent_in k
-parent-less n (RegularFile size filled verifier) = refl
-parent-less n (DirectoryKind parent subdirectories) = refl
-
-parent-more : (n : ℕ) (k : InodeKind) → parent_in (with_subdirectories n k) ≡ parent_in k
-parent-more n (RegularFile size filled verifier) = refl
-parent-more n (DirectoryKind parent subdirectories) = refl
+-- a node that moves, by its kind
+moved-kind : (bytes : ℕ → List ℕ) (blocks : FinSet nat_cmp) (touch : Option Moment) (d : DirectoryValue) (a : Attributes) (parent : ℕ)
+    (moment : Moment) (k : InodeKind)
+    → node_with bytes blocks None d (record (attributes_now touch a k) { ctime = moment }) (with_parent parent k)
+    ≡ moved_node parent moment (node_with bytes blocks touch d a k)
+moved-kind bytes blocks touch d a parent moment (DirectoryKind old subs) = refl
+moved-kind bytes blocks touch d a parent moment kind = refl
 
 -- ---- an entry taken
 
@@ -72,7 +76,7 @@ module _ (s : LogicalSet) (m : Naming) (there : inode_of s.own.inodes m.director
 
   here : now m.directory dated ≡ directory_then
   here = node-of-directory taken.stripes (get taken.own.directories m.directory) (removed m.name m.entries) m.directory dated.attributes dated.kind parent
-      entries-at (parent-less (directories_in m.node.kind) m.inode.kind ∙ says)
+      entries-at (unnamed.parent-kept (directories_in m.node.kind) m.inode.kind ∙ says)
 
   others : (q : ℕ) → (q == m.directory) ≡ false → (o : Option Inode) → option_map (now q) o ≡ option_map (was q) o
   others q ne None = refl
@@ -130,42 +134,19 @@ module _ (s : LogicalSet) (m : Naming) (there : inode_of s.own.inodes m.director
 
   directory-then : then_seen m.directory dated_to ≡ entered_then
   directory-then = node-of-directory hung.stripes (get hung.own.directories m.directory) (added m.name m.fileid m.entries) m.directory
-      dated_to.attributes dated_to.kind parent hung-at (parent-more (directories_in m.node.kind) m.inode.kind ∙ says)
+      dated_to.attributes dated_to.kind parent hung-at (named.parent-kept (directories_in m.node.kind) m.inode.kind ∙ says)
 
   node-then : then_seen m.fileid (node_hung m touch) ≡ moved_then
-  node-then = by m.node.kind
-    where
-      by : (k : InodeKind)
-          → node_by hung.stripes (get hung.own.directories m.fileid) m.fileid (record (attributes_now touch m.node.attributes k) { ctime = m.moment })
-          (with_parent m.directory k)
-          ≡ moved_node m.directory m.moment (node_by s.stripes (get s.own.directories m.fileid) m.fileid m.node.attributes k)
-      by (RegularFile size filled verifier) = λ j. File (record {
-        attributes = record (attributes_now touch m.node.attributes (RegularFile size filled verifier)) { ctime = m.moment };
-        bytes = bytes-stay m.fileid s.stripes m.fileid size j;
-        filled = filled-stays m.fileid s.stripes m.fileid j;
-        touch = touch-gone m.fileid s.stripes j;
-        verifier = verifier;
-      })
-      by (DirectoryKind old subdirectories) = λ j. Directory (record {
-        attributes = record m.node.attributes { ctime = m.moment };
-        parent = m.directory;
-        next = (directory_or_empty (hung-off m.fileid apart-turned j)).next;
-        list = (directory_or_empty (hung-off m.fileid apart-turned j)).list;
-      })
+  node-then =
+      (λ j. node_with (λ size. bytes-stay m.fileid s.stripes m.fileid size j) (filled-stays m.fileid s.stripes m.fileid j)
+      (touch-gone m.fileid s.stripes j) (directory_or_empty (hung-off m.fileid apart-turned j))
+      (node_hung m touch).attributes (node_hung m touch).kind)
+      ∙ moved-kind (file_bytes s.stripes m.fileid) (file_filled s.stripes m.fileid) touch (directory_or_empty (get s.own.directories m.fileid))
+      m.node.attributes m.directory m.moment m.node.kind
 
   off : (q : ℕ) → (q == m.directory) ≡ false → (q == m.fileid) ≡ false → (inode : Inode) → then_seen q inode ≡ seen q inode
-  off q ne other inode = by inode.kind
-    where
-      by : (k : InodeKind) → node_by hung.stripes (get hung.own.directories q) q inode.attributes k
-          ≡ node_by s.stripes (get s.own.directories q) q inode.attributes k
-      by (RegularFile size filled verifier) = λ j. File (record {
-        attributes = inode.attributes;
-        bytes = bytes-stay m.fileid s.stripes q size j;
-        filled = filled-stays m.fileid s.stripes q j;
-        touch = touch-stays m.fileid s.stripes q other j;
-        verifier = verifier;
-      })
-      by (DirectoryKind old subdirectories) = λ j. node_by s.stripes (hung-off q ne j) q inode.attributes (DirectoryKind old subdirectories)
+  off q ne other inode = λ j. node_with (λ size. bytes-stay m.fileid s.stripes q size j) (filled-stays m.fileid s.stripes q j)
+      (touch-stays m.fileid s.stripes q other j) (directory_or_empty (hung-off q ne j)) inode.attributes inode.kind
 
   all-off : (q : ℕ) → (q == m.directory) ≡ false → (q == m.fileid) ≡ false → (o : Option Inode) → option_map (then_seen q) o ≡ option_map (seen q) o
   all-off q ne other None = refl

@@ -16,7 +16,7 @@ use Rattle.nfs_model.specs.Parts.{Hand, one_if, times_listed}
 use Rattle.depot_rule.specs.Sums.{total}
 use Rattle.nfs_model.specs.Types.{Ownership}
 use Rattle.nfs_model.specs.Serial.Rights.{ownership_of}
-use Rattle.nfs_model.specs.volume.Inodes.{RegularFile, Inode, InodesValue, filled_blocks, inode_of, inode_set}
+use Rattle.nfs_model.specs.volume.Inodes.{Inode, InodesValue, filled_blocks, inode_of, inode_set}
 use Rattle.nfs_model.specs.volume.Stripes.{Card, OfFile, OfDirectory, Block, StripeValue, byte_cut, block_mapped, card_settled, touch_taken}
 use Rattle.nfs_model.specs.volume.Stripes.{touch_of, stripe_of, is_filled, numbers_freed}
 use Rattle.nfs_model.specs.volume.lemmas.Inodes.{inode-set-there, inode-set-other, next-set, used-set, len-set, set-is}
@@ -24,6 +24,7 @@ use Rattle.nfs_model.specs.volume.lemmas.Numbered.{get-insert_at, get-changed_at
 use Rattle.filer_state.specs.state.Contents.{VolumeContents}
 use Rattle.filer_state.specs.state.Tree.{stripe_at, home_stripe, file_filled, most_file_blocks, ranges_used}
 use Rattle.filer_state.specs.state.Names.{size_in, size_of, parent_directory, subdirectories_of}
+use Rattle.filer_state.specs.state.Kinds.{IsFile}
 use Rattle.filer_state.specs.state.WellFormed.{StripeFits, BlockFits, WellFormed, IsLargest, size_shown, owner_shown, owner_by, owner_in}
 use Rattle.filer_state.specs.state.Partition.{times_in_stripe, times_in_hand}
 use Rattle.filer_state.specs.state.Sound.{IsSound}
@@ -113,7 +114,7 @@ largest-blocks largest size block is most less =
     let whole = is.is in let few = is.most in omega (arith, whole, few, most, less)
 
 module _ (p : VolumeContents) (m : Sizing) (well : WellFormed p) (there : get p.logical.inodes.inodes m.fileid ≡ Some m.inode)
-    (old_size filled : ℕ) (verifier : Option (List ℕ)) (is_file : m.inode.kind ≡ RegularFile old_size filled verifier)
+    (old_size filled : ℕ) (verifier : Option (List ℕ)) (is_file : IsFile m.inode.kind old_size filled verifier)
     (small : m.size ≤ p.logical.largest) where
   abbrev f : ℕ
   f = m.fileid
@@ -137,7 +138,7 @@ module _ (p : VolumeContents) (m : Sizing) (well : WellFormed p) (there : get p.
   abbrev after : VolumeContents
   after = sized_in m p
 
-  kind-after : next_inode.kind ≡ RegularFile m.size (filled - fewer) verifier
+  kind-after : IsFile next_inode.kind m.size (filled - fewer) verifier
   kind-after = ap (kind_sized m.size fewer) is_file
 
   at-file : inode_of new f ≡ Some next_inode

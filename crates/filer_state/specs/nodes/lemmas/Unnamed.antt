@@ -4,6 +4,7 @@ use Rattle.std.proofs.Common.{refl, sym, ap, ◌∙◌, subst, arith, eq-eqb, ne
 use Rattle.std.specs.Prelude.{if◌then◌else◌, is_some, IfSome}
 use Rattle.std.proofs.lemmas.Bool.{eqb-true}
 use Rattle.std.specs.List.{AllByRecursion}
+use Rattle.std.specs.Option.{option_map}
 use Rattle.std.specs.Cmp.{nat_cmp_total}
 use Rattle.std.specs.FinMap.{get, remove, entries, nat_cmp-IsAntisymmetric}
 use Rattle.nfs_model.specs.Types.{Listed}
@@ -11,11 +12,12 @@ use Rattle.nfs_model.specs.Names.{find_name, without_name}
 use Rattle.nfs_model.specs.Parts.{one_if}
 use Rattle.depot_rule.specs.Sums.{total}
 use Rattle.nfs_model.specs.volume.Directories.{DirectoryValue, removed, found}
-use Rattle.nfs_model.specs.volume.Inodes.{InodeKind, RegularFile, DirectoryKind, Inode, InodesValue, inode_of, inode_dropped}
+use Rattle.nfs_model.specs.volume.Inodes.{InodeKind, Inode, InodesValue, filled_blocks, inode_of, inode_dropped}
 use Rattle.nfs_model.specs.volume.lemmas.Inodes.{inode-dropped-there, inode-dropped-other, inode-set-there, inode-set-other}
 use Rattle.nfs_model.specs.volume.lemmas.Numbered.{get-insert_at, get-remove_at, itself}
 use Rattle.filer_state.specs.state.Names.{root, DirectoryMap, size_in, size_of, parent_in, parent_directory, subdirectories_in, subdirectories_of, is_directory}
 use Rattle.filer_state.specs.state.Names.{parent_or, times_in_list, times_named, is_named, directories_listed, directory_above, DirectoryFits, AreNamed}
+use Rattle.filer_state.specs.laws.lemmas.InodeKinds as kinds
 use Rattle.filer_state.specs.laws.lemmas.Mapped.{entry-at-least, total-entries}
 use Rattle.filer_state.specs.nodes.Making.{directories_in}
 use Rattle.filer_state.specs.nodes.Dropping.{Dropping, without_subdirectories, directory_left, inodes_left, directories_left, entries_left}
@@ -28,16 +30,16 @@ use Rattle.nfs_model.specs.volume.lemmas.Listing.{all-without, removed-is, count
 -- ---- kinds
 
 pub parent-kept : (fewer : ℕ) (k : InodeKind) → parent_in (without_subdirectories fewer k) ≡ parent_in k
-parent-kept fewer (RegularFile size filled verifier) = refl
-parent-kept fewer (DirectoryKind parent subdirectories) = refl
+parent-kept fewer k = kinds.parent-kept (λ n. n - fewer) k
 
 pub size-kept : (fewer : ℕ) (k : InodeKind) → size_in (without_subdirectories fewer k) ≡ size_in k
-size-kept fewer (RegularFile size filled verifier) = refl
-size-kept fewer (DirectoryKind parent subdirectories) = refl
+size-kept fewer k = kinds.size-changed (λ parent. parent) (λ n. n - fewer) k
+
+pub blocks-kept : (fewer : ℕ) (k : InodeKind) → filled_blocks (without_subdirectories fewer k) ≡ filled_blocks k
+blocks-kept fewer k = kinds.blocks-changed (λ parent. parent) (λ n. n - fewer) k
 
 pub counted-less : (fewer n : ℕ) (k : InodeKind) → subdirectories_in k ≡ Some n → subdirectories_in (without_subdirectories fewer k) ≡ Some (n - fewer)
-counted-less fewer n (RegularFile size filled verifier) e = absurd cc
-counted-less fewer n (DirectoryKind parent subdirectories) e = let same : subdirectories ≡ n = cc in ap (λ k. Some (k - fewer)) same
+counted-less fewer n k e = kinds.count-changed (λ parent. parent) (λ n. n - fewer) k ∙ ap (option_map (λ n. n - fewer)) e
 
 module _ (old : InodesValue) (directories : DirectoryMap) (m : Dropping) (may : LosesName m old directories) where
   abbrev new : InodesValue
@@ -187,15 +189,21 @@ module _ (old : InodesValue) (directories : DirectoryMap) (m : Dropping) (may : 
     none-is None e = refl
     none-is (Some d) e = absurd cc
 
-    dropped-alone : (k : InodeKind) → is_some (get directories m.fileid) ≡ is_some (parent_in k) → get (directories_left k m.fileid directories) m.fileid ≡ None
-    dropped-alone (RegularFile size filled verifier) e = none-is (get directories m.fileid) e
-    dropped-alone (DirectoryKind parent subdirectories) e =
+    -- the directories without the node's entries, if it is one
+    abbrev directories_if : Bool → DirectoryMap
+    directories_if b = if b then remove directories m.fileid else directories
+
+    abbrev dropped_one : Bool
+    dropped_one = is_some (parent_in m.dropped.kind)
+
+    dropped-alone : (b : Bool) → is_some (get directories m.fileid) ≡ b → get (directories_if b) m.fileid ≡ None
+    dropped-alone false e = none-is (get directories m.fileid) e
+    dropped-alone true e =
         get-remove_at directories m.fileid m.fileid ∙ ap (λ (b : Bool). if b then None else get directories m.fileid) (itself m.fileid)
 
-    others-alone : (k : InodeKind) (q : ℕ) → (q == m.fileid) ≡ false → get (directories_left k m.fileid directories) q ≡ get directories q
-    others-alone (RegularFile size filled verifier) q left = refl
-    others-alone (DirectoryKind parent subdirectories) q left =
-        get-remove_at directories m.fileid q ∙ ap (λ (b : Bool). if b then None else get directories q) left
+    others-alone : (b : Bool) (q : ℕ) → (q == m.fileid) ≡ false → get (directories_if b) q ≡ get directories q
+    others-alone false q left = refl
+    others-alone true q left = get-remove_at directories m.fileid q ∙ ap (λ (b : Bool). if b then None else get directories q) left
 
     found-at : (q : ℕ) → get directories_after q ≡ (if q == m.directory then Some (removed m.name m.entries) else get first_entries q)
     found-at q = get-insert_at first_entries m.directory (removed m.name m.entries) q
@@ -207,11 +215,11 @@ module _ (old : InodesValue) (directories : DirectoryMap) (m : Dropping) (may : 
     pub dropped-entries : get directories_after m.fileid ≡ None
     dropped-entries =
         found-at m.fileid ∙ ap (λ (b : Bool). if b then Some (removed m.name m.entries) else get first_entries m.fileid) apart-turned
-        ∙ dropped-alone m.dropped.kind dropped-directory
+        ∙ dropped-alone dropped_one dropped-directory
 
     pub other-entries : (q : ℕ) → (q == m.directory) ≡ false → (q == m.fileid) ≡ false → get directories_after q ≡ get directories q
     other-entries q ne left =
-        found-at q ∙ ap (λ (b : Bool). if b then Some (removed m.name m.entries) else get first_entries q) ne ∙ others-alone m.dropped.kind q left
+        found-at q ∙ ap (λ (b : Bool). if b then Some (removed m.name m.entries) else get first_entries q) ne ∙ others-alone dropped_one q left
 
     -- ---- what holds of each
 
@@ -223,13 +231,9 @@ module _ (old : InodesValue) (directories : DirectoryMap) (m : Dropping) (may : 
         (ap (λ o. is_some o) dropped-entries ∙ sym (ap is_directory at-dropped))
         (λ q ne left. ap (λ o. is_some o) (other-entries q ne left) ∙ named.as_directories q ∙ sym (ap is_directory (at-other q ne left)))
 
-    kind-directory : (k : InodeKind) → one_if (is_some (parent_in k)) ≡ directories_in k
-    kind-directory (RegularFile size filled verifier) = refl
-    kind-directory (DirectoryKind parent subdirectories) = refl
-
     entry-counts : one_if (is_directory (inode_of old may.entry.fileid)) ≡ directories_in m.dropped.kind
     entry-counts =
-        ap (λ (x : ℕ). one_if (is_directory (inode_of old x))) may.is ∙ ap (λ o. one_if (is_directory o)) may.node ∙ kind-directory m.dropped.kind
+        ap (λ (x : ℕ). one_if (is_directory (inode_of old x))) may.is ∙ ap (λ o. one_if (is_directory o)) may.node
 
     fits-directory : DirectoryFits new.inodes m.directory (removed m.name m.entries)
     fits-directory =
@@ -263,10 +267,9 @@ module _ (old : InodesValue) (directories : DirectoryMap) (m : Dropping) (may : 
 
     -- ---- how often each is named
 
-    first-times : (q : ℕ) (k : InodeKind) → is_some (get directories m.fileid) ≡ is_some (parent_in k)
-        → total (times_of q) (entries (directories_left k m.fileid directories)) ≡ times_named q directories
-    first-times q (RegularFile size filled verifier) e = refl
-    first-times q (DirectoryKind parent subdirectories) e = by (get directories m.fileid) refl e
+    first-times : (q : ℕ) (b : Bool) → is_some (get directories m.fileid) ≡ b → total (times_of q) (entries (directories_if b)) ≡ times_named q directories
+    first-times q false e = refl
+    first-times q true e = by (get directories m.fileid) refl e
       where
         by : (o : Option DirectoryValue) → get directories m.fileid ≡ o → is_some (get directories m.fileid) ≡ true
             → total (times_of q) (entries (remove directories m.fileid)) ≡ times_named q directories
@@ -277,12 +280,12 @@ module _ (old : InodesValue) (directories : DirectoryMap) (m : Dropping) (may : 
             omega (arith, split, none)
 
     first-there : get first_entries m.directory ≡ Some m.entries
-    first-there = others-alone m.dropped.kind m.directory apart ∙ may.entered
+    first-there = others-alone dropped_one m.directory apart ∙ may.entered
 
     times-after : (q : ℕ) → times_named q directories_after + one_if (m.fileid == q) ≡ times_named q directories
     times-after q =
         let set = total-set (times_of q) first_entries m.directory m.entries (removed m.name m.entries) first-there in
-        let first = first-times q m.dropped.kind dropped-directory in
+        let first = first-times q dropped_one dropped-directory in
         let left = times-left q in
         omega (arith, set, first, left)
 

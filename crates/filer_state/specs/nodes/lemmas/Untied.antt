@@ -9,10 +9,10 @@ use Rattle.nfs_model.specs.Types.{Listed}
 use Rattle.nfs_model.specs.Names.{without_name}
 use Rattle.nfs_model.specs.Parts.{one_if}
 use Rattle.nfs_model.specs.volume.Directories.{DirectoryValue, removed}
-use Rattle.nfs_model.specs.volume.Inodes.{InodeKind, RegularFile, DirectoryKind, Inode, InodesValue, inode_of}
+use Rattle.nfs_model.specs.volume.Inodes.{Inode, InodesValue, inode_of}
 use Rattle.nfs_model.specs.volume.lemmas.Inodes.{inode-set-there, inode-set-other}
 use Rattle.nfs_model.specs.volume.lemmas.Numbered.{get-insert_at, itself}
-use Rattle.filer_state.specs.state.Names.{root, InodeMap, DirectoryMap, parent_in, parent_directory, subdirectories_in, subdirectories_of}
+use Rattle.filer_state.specs.state.Names.{root, InodeMap, DirectoryMap, parent_directory, subdirectories_in, subdirectories_of}
 use Rattle.filer_state.specs.state.Names.{is_directory, parent_or, times_in_list, times_named, is_named, directories_listed, directory_above, DirectoryFits}
 use Rattle.filer_state.specs.state.Names.{ReachesRoot, AreNamed}
 use Rattle.filer_state.specs.nodes.Making.{directories_in}
@@ -153,10 +153,6 @@ module _ (old : InodesValue) (directories : DirectoryMap) (m : Naming) (stands :
             ∙ ap (λ (b : Bool). one_if (b && not (q == root))) (some-same q) in
             omega (arith, other, left, was, same)
 
-    kind-directory : (k : InodeKind) → one_if (is_some (parent_in k)) ≡ directories_in k
-    kind-directory (RegularFile size filled verifier) = refl
-    kind-directory (DirectoryKind parent subdirectories) = refl
-
     fits-directory : DirectoryFits new.inodes m.directory (removed m.name m.entries)
     fits-directory =
         let was = named.fits m.directory m.entries stands.entered in
@@ -171,7 +167,7 @@ module _ (old : InodesValue) (directories : DirectoryMap) (m : Naming) (stands :
               let all = count-without (λ (e : Listed). is_directory (get old.inodes e.fileid)) m.name m.entries.list stands.entry
               was.list.names stands.found_there in
               let one : one_if (is_directory (inode_of old stands.entry.fileid)) ≡ directories_in m.node.kind =
-              ap (λ (x : ℕ). one_if (is_directory (inode_of old x))) stands.is ∙ ap (λ o. one_if (is_directory o)) stands.node ∙ kind-directory m.node.kind in
+              ap (λ (x : ℕ). one_if (is_directory (inode_of old x))) stands.is ∙ ap (λ o. one_if (is_directory o)) stands.node in
               let same = directories-same (without_name m.name m.entries.list) in
               let sum : directories_listed old.inodes m.entries.list - directories_in m.node.kind
               ≡ directories_listed new.inodes (without_name m.name m.entries.list) = omega (arith, all, one, same) in

@@ -1,26 +1,25 @@
 -- What calls are refused by what is under Logical is what the serial server refuses.
-use Rattle.std.proofs.Common.{◌≡◌, ℕ, ◌==◌, ◌||◌, Bool, true, false, List, Option, Some, None, refl, sym, ap, ◌∙◌}
+use Rattle.std.proofs.Common.{◌≡◌, ℕ, ◌==◌, ◌||◌, Bool, List, Option, Some, None, refl, sym, ap, ◌∙◌}
 use Rattle.std.specs.Prelude.{if◌then◌else◌}
 use Rattle.std.specs.Option.{option_map}
 use Rattle.std.specs.FinMap.{get}
-use Rattle.nfs_model.specs.Types as types
 use Rattle.nfs_model.specs.Types.{Credential, Caller, Listed, Status, CreateMode, Unchecked, Guarded, Exclusive}
 use Rattle.nfs_model.specs.Types.{Call, Setattr, Lookup, Read, Write, Create, Mkdir, Remove, Rmdir, Rename, Readdir, Readdirplus, Commit}
-use Rattle.nfs_model.specs.Server.{Attributes, DirectoryNode, Node, File, Directory}
+use Rattle.nfs_model.specs.Server.{DirectoryNode, Node, File, Directory}
 use Rattle.nfs_model.specs.Names.{find_name}
 use Rattle.nfs_model.specs.Locate.{Found, found_at, child}
-use Rattle.nfs_model.specs.Serial.Rights.{Protection, protection, may_read, may_write, may_search, may_list}
+use Rattle.nfs_model.specs.Serial.Rights.{Protection, protection, may_read, may_write, may_search}
 use Rattle.nfs_model.specs.Serial.Permission.{needs, then_asks, of_node, of_file, of_directory, set_refusal, is_no_child, of_name, new_refusal}
 use Rattle.nfs_model.specs.Serial.Permission.{over_refusal, create_refusal, gone_refusal, target_refusal, moved_refusal, move_refusal}
 use Rattle.nfs_model.specs.Serial.Permission.{is_one_entry, rename_refusal, write_rights, is_change, refusal_by, refusal_of, refusal}
 use Rattle.nfs_model.specs.volume.Inodes.{InodeKind, RegularFile, DirectoryKind, Inode}
 use Rattle.filer_state.specs.state.Contents.{VolumeContents}
 use Rattle.filer_state.specs.state.Tree.{volume_of, node_by, node_of}
-use Rattle.filer_state.specs.state.Protected.{kind_shown, protection_of}
+use Rattle.filer_state.specs.state.Protected.{protection_of}
 use Rattle.filer_state.specs.state.Lenses.{LogicalSet, logical_lens}
 use Rattle.filer_state.specs.attributes.lemmas.Getting.{node-at}
 use Rattle.filer_state.specs.names.Answers.{entries_of}
-use Rattle.filer_state.specs.permissions.Refusing.{of_inode, if_directory, of_directory_inode, if_file, of_file_inode, protection_at, protection_under}
+use Rattle.filer_state.specs.permissions.Refusing.{of_inode, if_directory, of_directory_inode, if_file, of_file_inode, protection_at}
 use Rattle.filer_state.specs.permissions.Refusing.{new_asked, over_kind, create_asked, gone_asked, target_asked, moved_kind, move_asked}
 use Rattle.filer_state.specs.permissions.Refusing.{of_held_name, of_held_names, asked_of, refusal_held}
 
@@ -33,16 +32,12 @@ module _ (p : VolumeContents) where
 
   -- a node is protected as its inode is
   same-protection : (fileid : ℕ) (inode : Inode) → protection (seen fileid inode) ≡ protection_of inode
-  same-protection fileid inode = by inode.kind refl
+  same-protection fileid inode = by inode.kind
     where
-      by : (k : InodeKind) → inode.kind ≡ k → protection (node_by p.stripes (get p.logical.directories fileid) fileid inode.attributes inode.kind)
-          ≡ protection_of inode
-      by (RegularFile size filled verifier) is =
-          ap (λ (k : InodeKind). protection (node_by p.stripes (get p.logical.directories fileid) fileid inode.attributes k)) is
-          ∙ sym (ap (λ (k : InodeKind). protection_of (record inode { kind = k })) is)
-      by (DirectoryKind parent subdirectories) is =
-          ap (λ (k : InodeKind). protection (node_by p.stripes (get p.logical.directories fileid) fileid inode.attributes k)) is
-          ∙ sym (ap (λ (k : InodeKind). protection_of (record inode { kind = k })) is)
+      by : (k : InodeKind) → protection (node_by p.stripes (get p.logical.directories fileid) fileid inode.attributes k)
+          ≡ protection_of (record inode { kind = k })
+      by (DirectoryKind parent subdirectories) = refl
+      by k = refl
 
   -- ---- a node
 
@@ -64,7 +59,7 @@ module _ (p : VolumeContents) where
       kinds inode (RegularFile size filled verifier) is =
           ap ask (ap (λ (k : InodeKind). protection (node_by p.stripes (get p.logical.directories fileid) fileid inode.attributes k)) (sym is)
           ∙ same-protection fileid inode)
-      kinds inode (DirectoryKind parent subdirectories) is = refl
+      kinds inode k is = refl
 
       by : (o : Option Inode) → of_file (option_map (seen fileid) o) ask ≡ of_file_inode o ask
       by None = refl
@@ -79,11 +74,11 @@ module _ (p : VolumeContents) where
       kinds : (inode : Inode) (k : InodeKind) → inode.kind ≡ k
           → of_directory (Some (node_by p.stripes (get p.logical.directories fileid) fileid inode.attributes k)) ask
           ≡ if_directory k (told (protection_of inode))
-      kinds inode (RegularFile size filled verifier) is = refl
       kinds inode (DirectoryKind parent subdirectories) is =
           same _ refl
           ∙ ap told (ap (λ (k : InodeKind). protection (node_by p.stripes (get p.logical.directories fileid) fileid inode.attributes k)) (sym is)
           ∙ same-protection fileid inode)
+      kinds inode k is = refl
 
       by : (o : Option Inode) → of_directory (option_map (seen fileid) o) ask ≡ of_directory_inode o told
       by None = refl
@@ -107,15 +102,15 @@ module _ (p : VolumeContents) where
   module _ (who : Credential) where
     over-same : (mode : CreateMode) (node : Node) → over_refusal who mode node ≡ over_kind who mode (protection node) (protection node).kind
     over-same (Unchecked set) (File f) = refl
-    over-same (Unchecked set) (Directory d) = refl
+    over-same (Unchecked set) node = refl
     over-same (Guarded set) (File f) = refl
-    over-same (Guarded set) (Directory d) = refl
+    over-same (Guarded set) node = refl
     over-same (Exclusive verifier) (File f) = refl
-    over-same (Exclusive verifier) (Directory d) = refl
+    over-same (Exclusive verifier) node = refl
 
     moved-same : (stays : Bool) (node : Node) → moved_refusal who stays node ≡ moved_kind who stays (protection node) (protection node).kind
-    moved-same stays (File f) = refl
     moved-same stays (Directory d) = refl
+    moved-same stays node = refl
 
     target-same : (directory : Protection) (o : Option Listed)
         → target_refusal who directory (child (volume_of p) o)
