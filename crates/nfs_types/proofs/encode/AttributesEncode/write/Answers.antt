@@ -19,5 +19,5 @@ returns-clause-items c =
       c.append.ensures.items,
       c.two_words.ensures,
       c.word.ensures,
-      sym c.device.ensures,
+      sym c.device-device.ensures,
     ) (simp append_assoc)
