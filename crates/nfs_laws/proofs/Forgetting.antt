@@ -8,12 +8,14 @@ use Rattle.nfs_model.specs.Locate.{Effect, Fails, Tells, Changes, Located}
 use Rattle.nfs_model.specs.Serial.Once.{change_of, told_among, told_of, memos_with, memos_after, remembering, remembered, or_told, once}
 use Rattle.nfs_model.specs.Serial.Create.{create}
 use Rattle.nfs_model.specs.Serial.Mkdir.{mkdir}
+use Rattle.nfs_model.specs.Serial.Symlink.{symlink}
+use Rattle.nfs_model.specs.Serial.Mknod.{mknod}
 use Rattle.nfs_model.specs.Serial.Remove.{remove_name}
 use Rattle.nfs_model.specs.Serial.Rmdir.{rmdir}
 use Rattle.nfs_model.specs.Serial.Step.{Step, stay, placed, on, on_two, serve}
 use Rattle.nfs_laws.specs.Repeated.{memos_in, memos_of, volume_of, serve_forgetting}
 use Rattle.nfs_laws.specs.lemmas.Effects.{Keeps, Ends, Telling, ends_tells, ends_changes, permitted_ends, permitted_two_ends, name_ends, setattr_ends, create_ends, mkdir_ends, remove_ends}
-use Rattle.nfs_laws.specs.lemmas.Effects.{rmdir_ends, rename_ends}
+use Rattle.nfs_laws.specs.lemmas.Effects.{symlink_ends, mknod_ends, rmdir_ends, rename_ends, link_ends}
 use Rattle.nfs_laws.specs.lemmas.Served.{IsAt, IsIn, located, first_handle, volume_first}
 
 -- a list is the same with what stood there
@@ -100,6 +102,14 @@ forgetting server (model.Create directory name mode) who moment none =
 forgetting server (model.Mkdir directory name set) who moment none =
     on_forgotten server (model.Mkdir directory name set) who moment none _ directory _ _ refl (located server directory)
     (permitted_ends Telling who (model.Mkdir directory name set) _ (λ v f. name_ends Telling name moment (mkdir set who) v f (mkdir_ends set who)))
+forgetting server (model.Symlink directory name set text) who moment none =
+    on_forgotten server (model.Symlink directory name set text) who moment none _ directory _ _ refl (located server directory)
+    (permitted_ends Telling who (model.Symlink directory name set text) _
+    (λ v f. name_ends Telling name moment (symlink set text who) v f (symlink_ends set text who)))
+forgetting server (model.Mknod directory name kind set) who moment none =
+    on_forgotten server (model.Mknod directory name kind set) who moment none _ directory _ _ refl (located server directory)
+    (permitted_ends Telling who (model.Mknod directory name kind set) _
+    (λ v f. name_ends Telling name moment (mknod kind set who) v f (mknod_ends kind set who)))
 forgetting server (model.Remove directory name) who moment none =
     on_forgotten server (model.Remove directory name) who moment none _ directory _ _ refl (located server directory)
     (permitted_ends Telling who (model.Remove directory name) _ (λ v f. name_ends Telling name moment remove_name v f remove_ends))
@@ -109,4 +119,7 @@ forgetting server (model.Rmdir directory name) who moment none =
 forgetting server (model.Rename from from_name to to_name) who moment none =
     two_forgotten server (model.Rename from from_name to to_name) who moment none _ from _ _ _ refl (located server from)
     (permitted_two_ends Telling who (model.Rename from from_name to to_name) _ (rename_ends from_name to_name moment))
+forgetting server (model.Link handle directory name) who moment none =
+    two_forgotten server (model.Link handle directory name) who moment none _ handle _ _ _ refl (located server handle)
+    (permitted_two_ends Telling who (model.Link handle directory name) _ (link_ends name moment))
 forgetting server call who moment none = refl

@@ -1,9 +1,9 @@
 -- A call that its client sends again (RFC 1813 section 4.5): where its reply is remembered, what may come between, and when it is told.
 use Rattle.std.specs.Prelude.{◌≡◌, ◌≢◌, ℕ, Bool, true, false, not, ◌&&◌, nat_lt, is_some, List, [], ◌∷◌, length, Option, Some, None, slice_get}
 use Rattle.std.specs.Prelude.{if◌then◌else◌}
-use Rattle.nfs_model.specs.Types.{Moment, Caller, Call, Setattr, Create, Mkdir, Remove, Rmdir, Rename, Failed, Reply, Success, Asked, Ask}
+use Rattle.nfs_model.specs.Types.{Moment, Caller, Call, Setattr, Create, Mkdir, Symlink, Mknod, Remove, Rmdir, Rename, Link, Failed, Reply, Success, Asked, Ask}
 use Rattle.nfs_model.specs.Tree.{Layout, VolumeLayout}
-use Rattle.nfs_model.specs.Memo.{Change, Sets, Creates, MakesDirectory, Removes, RemovesDirectory, Renames, Memo}
+use Rattle.nfs_model.specs.Memo.{Change, Sets, Creates, MakesDirectory, MakesLink, MakesNode, Removes, RemovesDirectory, Renames, Links, Memo}
 use Rattle.nfs_model.specs.Server.{VolumeState, Server, named_read}
 use Rattle.nfs_model.specs.Locate.{locate, on_name}
 use Rattle.nfs_model.specs.Serial.Absent.{absent_parts}
@@ -12,9 +12,12 @@ use Rattle.nfs_model.specs.Serial.Once.{change_of, place, is_recent, told_among}
 use Rattle.nfs_model.specs.Serial.Setattr.{setattr}
 use Rattle.nfs_model.specs.Serial.Create.{create}
 use Rattle.nfs_model.specs.Serial.Mkdir.{mkdir}
+use Rattle.nfs_model.specs.Serial.Symlink.{symlink}
+use Rattle.nfs_model.specs.Serial.Mknod.{mknod}
 use Rattle.nfs_model.specs.Serial.Remove.{remove_name}
 use Rattle.nfs_model.specs.Serial.Rmdir.{rmdir}
 use Rattle.nfs_model.specs.Serial.Rename.{rename}
+use Rattle.nfs_model.specs.Serial.Link.{link}
 use Rattle.nfs_model.specs.Serial.Step.{Step, on, on_two, serve}
 use Rattle.nfs_model.specs.Replay.{FinishedCall, step_of}
 
@@ -46,9 +49,12 @@ abbrev pub volume_of : Change → ℕ
 volume_of (Sets handle set guard) = (named_read handle).volume
 volume_of (Creates directory name mode) = (named_read directory).volume
 volume_of (MakesDirectory directory name set) = (named_read directory).volume
+volume_of (MakesLink directory name set text) = (named_read directory).volume
+volume_of (MakesNode directory name kind set) = (named_read directory).volume
 volume_of (Removes directory name) = (named_read directory).volume
 volume_of (RemovesDirectory directory name) = (named_read directory).volume
 volume_of (Renames from from_name to to_name) = (named_read from).volume
+volume_of (Links handle directory name) = (named_read handle).volume
 
 -- a result with the status OK (RFC 1813 section 2.5)
 abbrev pub is_success : Reply → Bool
@@ -74,7 +80,7 @@ abbrev pub kept_in : Server → Asked → Moment → Reply → Option Place
 kept_in server (Ask call caller) moment reply = kept_of server caller (change_of call) moment reply
 kept_in server asked moment reply = None
 
--- Where the reply to a finished call is remembered from then on. None where it isn't one of the six procedures of `change_of`, was told
+-- Where the reply to a finished call is remembered from then on. None where it isn't one of the nine procedures of `change_of`, was told
 -- again, failed or found no memory, and where the volume has no place.
 abbrev pub remembered_in : Server → FinishedCall → Option Place
 remembered_in server e = kept_in server e.asked e.moment (step_of server e).reply
@@ -106,6 +112,12 @@ serve_forgetting server (Create directory name mode) caller moment =
 serve_forgetting server (Mkdir directory name set) caller moment =
     on server (absent_parts (Mkdir directory name set)) (locate server directory)
     (permitted caller (Mkdir directory name set) (on_name name moment (mkdir set caller)))
+serve_forgetting server (Symlink directory name set text) caller moment =
+    on server (absent_parts (Symlink directory name set text)) (locate server directory)
+    (permitted caller (Symlink directory name set text) (on_name name moment (symlink set text caller)))
+serve_forgetting server (Mknod directory name kind set) caller moment =
+    on server (absent_parts (Mknod directory name kind set)) (locate server directory)
+    (permitted caller (Mknod directory name kind set) (on_name name moment (mknod kind set caller)))
 serve_forgetting server (Remove directory name) caller moment =
     on server (absent_parts (Remove directory name)) (locate server directory)
     (permitted caller (Remove directory name) (on_name name moment remove_name))
@@ -115,4 +127,7 @@ serve_forgetting server (Rmdir directory name) caller moment =
 serve_forgetting server (Rename from from_name to to_name) caller moment =
     on_two server (absent_parts (Rename from from_name to to_name)) (locate server from) (locate server to)
     (permitted_two caller (Rename from from_name to to_name) (rename from_name to_name moment))
+serve_forgetting server (Link handle directory name) caller moment =
+    on_two server (absent_parts (Link handle directory name)) (locate server handle) (locate server directory)
+    (permitted_two caller (Link handle directory name) (link name moment))
 serve_forgetting server call caller moment = serve server call caller moment

@@ -3,31 +3,36 @@ use Rattle.std.proofs.Common.{◌≡◌, ℕ, ◌+◌, Bool, true, false, cond, 
 use Rattle.std.specs.Prelude.{not, ◌==◌, ◌&&◌, is_none, min, nat_le}
 use Rattle.std.specs.FinMap.{get, insert, remove}
 use Rattle.nfs_model.specs.Types as model
-use Rattle.nfs_model.specs.Memo.{Told, ToldSet, ToldMade, ToldGone, ToldRenamed}
-use Rattle.nfs_model.specs.Server.{FileNode, DirectoryNode, Node, File, Directory, VolumeState, most_bytes, handle_bytes}
+use Rattle.nfs_model.specs.Memo.{Told, ToldSet, ToldMade, ToldGone, ToldRenamed, ToldLinked}
+use Rattle.nfs_model.specs.Server.{FileNode, DirectoryNode, SpecialNode, Node, File, Directory, Special, VolumeState, most_bytes, handle_bytes}
 use Rattle.nfs_model.specs.Shown.{shown, wcc}
 use Rattle.nfs_model.specs.Names.{find_name, is_dots, name_fault, same_name, dot, dot_dot}
 use Rattle.nfs_model.specs.Locate.{Effect, Fails, Tells, Changes, unless, on_node, on_directory, on_file, Found}
-use Rattle.nfs_model.specs.Locate.{Naming, named_child, on_name}
+use Rattle.nfs_model.specs.Locate.{Naming, is_node_of, named_child, on_name}
 use Rattle.nfs_model.specs.Serial.Once.{told_of, answer_told}
 use Rattle.nfs_model.specs.Serial.Permission.{refusal, permitted, permitted_two}
 use Rattle.nfs_model.specs.Serial.Setattr.{with_node, set_file, set_taken, setattr}
 use Rattle.nfs_model.specs.Serial.Getattr.{getattr, tell_of}
 use Rattle.nfs_model.specs.Serial.Lookup.{lookup_told}
+use Rattle.nfs_model.specs.Serial.Readlink.{if_link, on_link, readlink}
 use Rattle.nfs_model.specs.Serial.Read.{read}
 use Rattle.nfs_model.specs.Serial.Write.{Writing, write_some, write}
 use Rattle.nfs_model.specs.Serial.Create.{made_told, with_child, directory_made, made, there_told, set_there, over_taken, is_verifier, new_file, maker, create_over, create_at, create}
 use Rattle.nfs_model.specs.Serial.Mkdir.{new_directory, mkdir_at, mkdir}
-use Rattle.nfs_model.specs.Serial.Remove.{directory_left, without_child, gone, remove_node, remove_at, remove_name}
-use Rattle.nfs_model.specs.Serial.Rmdir.{if_empty, rmdir_node, rmdir_at, rmdir}
-use Rattle.nfs_model.specs.Serial.Rename.{Renaming, climb_fault, met_above, may_go, renamed_volume, rename_told, is_same_entry, rename_at, rename_in, rename}
+use Rattle.nfs_model.specs.Serial.Symlink.{text_fault, new_fault, new_special, symlink_at, symlink}
+use Rattle.nfs_model.specs.Serial.Mknod.{if_made, mknod_kind, mknod_at, mknod}
+use Rattle.nfs_model.specs.Serial.Links.{with_link, without_link, node_left}
+use Rattle.nfs_model.specs.Serial.Link.{directory_fault, links_fault, directory_linked, with_another, linked, link_at, link_name, link}
+use Rattle.nfs_model.specs.Serial.Remove.{directory_left, without_child, gone, remove_found, remove_at, remove_name}
+use Rattle.nfs_model.specs.Serial.Rmdir.{if_empty, rmdir_found, rmdir_at, rmdir}
+use Rattle.nfs_model.specs.Serial.Rename.{Renaming, climb_fault, met_above, may_go, renamed_volume, rename_told, rename_at, rename_in, rename}
 use Rattle.nfs_model.specs.Serial.Readdir.{paged, readdir}
 use Rattle.nfs_model.specs.Serial.Readdirplus.{listed_for, paged_plus, readdirplus}
 use Rattle.nfs_model.specs.Serial.Fsstat.{fsstat}
 use Rattle.nfs_model.specs.Serial.Commit.{commit}
 use Rattle.nfs_model.specs.Serial.MountBelow.{part_fault, on_entry, search_refusal, mount_below}
 use Rattle.nfs_laws.specs.Repeated.{is_success}
-use Rattle.nfs_laws.specs.lemmas.Fileids.{AreBelow, insert_below, remove_below, below_next, more_below, renamed_below, found_there}
+use Rattle.nfs_laws.specs.lemmas.Fileids.{AreBelow, insert_below, left_below, below_next, more_below, IsThere, is_there, renamed_below, found_there}
 
 -- ---- what is kept
 
@@ -109,12 +114,14 @@ module _ (Q : Fact) where
   directory_ends old None run f = fails old model.Stale
   directory_ends old (Some (File g)) run f = fails old model.NotDirectory
   directory_ends old (Some (Directory d)) run f = f d refl
+  directory_ends old (Some (Special s)) run f = fails old model.NotDirectory
 
   file_ends : (old : VolumeState) (o : Option Node) (run : FileNode → Effect) → ((g : FileNode) → o ≡ Some (File g) → Ends Q old (run g))
       → Ends Q old (on_file o run)
   file_ends old None run f = fails old model.Stale
   file_ends old (Some (File g)) run f = f g refl
   file_ends old (Some (Directory d)) run f = fails old model.Invalid
+  file_ends old (Some (Special s)) run f = fails old model.Invalid
 
   pub name_ends : (name : List ℕ) (moment : model.Moment) (run : Naming → Effect) (volume : VolumeState) (fileid : ℕ)
       → ((x : Naming) → IsNamed x → Ends Q x.volume (run x)) → Ends Q volume (on_name name moment run volume fileid)
@@ -122,7 +129,7 @@ module _ (Q : Fact) where
       directory_ends volume (get volume.nodes fileid) _ (λ d e.
       unless_ends volume (name_fault name) _ (f (record { volume = volume; fileid = fileid; directory = d; name = name; moment = moment }) e))
 
-  -- a call on one handle, and RENAME, that are permitted or refused
+  -- a call on one handle, and RENAME and LINK, that are permitted or refused
   pub permitted_ends : (caller : model.Caller) (call : model.Call) (run : VolumeState → ℕ → Effect)
       → ((volume : VolumeState) (fileid : ℕ) → Ends Q volume (run volume fileid)) → (volume : VolumeState) (fileid : ℕ)
       → Ends Q volume (permitted caller call run volume fileid)
@@ -139,6 +146,10 @@ module _ (Q : Fact) where
   empty_ends old [] e f = f
   empty_ends old (x ∷ xs) e f = fails old model.NotEmpty
 
+  if_made_ends : (old : VolumeState) (special : model.SpecialType) (e : Effect) → Ends Q old e → Ends Q old (if_made special e)
+  if_made_ends old model.SymbolicLink e f = fails old model.BadType
+  if_made_ends old special e f = f
+
   entry_ends : (old : VolumeState) (o : Option model.Listed) (run : ℕ → Effect) → ((fileid : ℕ) → Ends Q old (run fileid)) → Ends Q old (on_entry o run)
   entry_ends old None run f = fails old model.NoEntry
   entry_ends old (Some e) run f = f e.fileid
@@ -148,6 +159,7 @@ module _ (Q : Fact) where
 shown_fileid : (volume : VolumeState) (fileid : ℕ) (node : Node) → (shown volume fileid node).fileid ≡ fileid
 shown_fileid volume fileid (File f) = refl
 shown_fileid volume fileid (Directory d) = refl
+shown_fileid volume fileid (Special s) = refl
 
 made_tells : (n : Naming) (new : VolumeState) (found : Found) (directory : Node) → CanTell new.number (made_told n new found directory)
 made_tells n new found directory = (
@@ -203,6 +215,8 @@ create_over_ends : (n : Naming) (mode : model.CreateMode) (caller : model.Caller
 create_over_ends n (model.Guarded set) caller fileid node e = fails _ _ _
 create_over_ends n (model.Unchecked set) caller fileid (Directory other) e = fails _ _ _
 create_over_ends n (model.Exclusive verifier) caller fileid (Directory other) e = fails _ _ _
+create_over_ends n (model.Unchecked set) caller fileid (Special other) e = fails _ _ _
+create_over_ends n (model.Exclusive verifier) caller fileid (Special other) e = fails _ _ _
 create_over_ends n (model.Exclusive verifier) caller fileid (File f) e =
     if_ends Telling n.volume (is_verifier f.verifier verifier) _ _ (there_ends n (record { fileid = fileid; node = File f })) (fails _ _ model.Exists)
 create_over_ends n (model.Unchecked set) caller fileid (File f) e =
@@ -226,57 +240,95 @@ mkdir_at_ends n set caller None e = unless_ends Telling n.volume _ _ (made_ends 
 pub mkdir_ends : (set : model.SetAttributes) (caller : model.Caller) (n : Naming) → IsNamed n → Ends Telling n.volume (mkdir set caller n)
 mkdir_ends set caller n e = if_ends Telling n.volume (is_dots n.name) _ _ (fails _ _ _) (mkdir_at_ends n set caller (named_child n) e)
 
-gone_ends : (n : Naming) (fileid : ℕ) → IsNamed n → Ends Telling n.volume (gone n fileid)
-gone_ends n fileid e =
-    changes Telling n.volume _ (without_child n fileid) refl (
-      others n.volume (without_child n fileid) refl refl refl (λ b.
-          insert_below n.volume.next (remove n.volume.nodes fileid) n.fileid (directory_left n) (b n.fileid _ e)
-          (remove_below n.volume.next n.volume.nodes fileid b)),
+symlink_at_ends : (n : Naming) (set : model.SetAttributes) (text : List ℕ) (caller : model.Caller) (o : Option Found) → IsNamed n
+    → Ends Telling n.volume (symlink_at n set text caller o)
+symlink_at_ends n set text caller (Some found) e = fails _ _ _
+symlink_at_ends n set text caller None e =
+    unless_ends Telling n.volume (text_fault text) _
+    (unless_ends Telling n.volume (new_fault n.volume set) _ (made_ends n (new_special model.SymbolicLink 511 set text (maker caller n) n.moment) e))
+
+pub symlink_ends : (set : model.SetAttributes) (text : List ℕ) (caller : model.Caller) (n : Naming) → IsNamed n
+    → Ends Telling n.volume (symlink set text caller n)
+symlink_ends set text caller n e =
+    if_ends Telling n.volume (is_dots n.name) _ _ (fails _ _ _) (symlink_at_ends n set text caller (named_child n) e)
+
+mknod_kind_ends : (n : Naming) (kind : model.Kind) (set : model.SetAttributes) (caller : model.Caller) → IsNamed n
+    → Ends Telling n.volume (mknod_kind n kind set caller)
+mknod_kind_ends n model.Regular set caller e = fails _ _ _
+mknod_kind_ends n model.DirectoryKind set caller e = fails _ _ _
+mknod_kind_ends n (model.SpecialKind special) set caller e =
+    if_made_ends Telling n.volume special _
+    (unless_ends Telling n.volume (new_fault n.volume set) _ (made_ends n (new_special special 420 set [] (maker caller n) n.moment) e))
+
+mknod_at_ends : (n : Naming) (kind : model.Kind) (set : model.SetAttributes) (caller : model.Caller) (o : Option Found) → IsNamed n
+    → Ends Telling n.volume (mknod_at n kind set caller o)
+mknod_at_ends n kind set caller (Some found) e = fails _ _ _
+mknod_at_ends n kind set caller None e = mknod_kind_ends n kind set caller e
+
+pub mknod_ends : (kind : model.Kind) (set : model.SetAttributes) (caller : model.Caller) (n : Naming) → IsNamed n
+    → Ends Telling n.volume (mknod kind set caller n)
+mknod_ends kind set caller n e =
+    if_ends Telling n.volume (is_dots n.name) _ _ (fails _ _ _) (mknod_at_ends n kind set caller (named_child n) e)
+
+gone_ends : (n : Naming) (found : Found) → IsNamed n → get n.volume.nodes found.fileid ≡ Some found.node → Ends Telling n.volume (gone n found)
+gone_ends n found e at =
+    changes Telling n.volume _ (without_child n found) refl (
+      others n.volume (without_child n found) refl refl refl (λ b.
+          insert_below n.volume.next (node_left n.volume.nodes found.fileid (without_link n.moment found.node)) n.fileid (directory_left n)
+          (b n.fileid _ e)
+          (left_below n.volume.next n.volume.nodes found.fileid (without_link n.moment found.node) (b found.fileid found.node at) b)),
       (ToldGone _, (refl, refl)),
     )
 
-remove_node_ends : (n : Naming) (fileid : ℕ) (node : Node) → IsNamed n → Ends Telling n.volume (remove_node n fileid node)
-remove_node_ends n fileid (File f) e = gone_ends n fileid e
-remove_node_ends n fileid (Directory d) e = fails _ _ _
+remove_found_ends : (n : Naming) (found : Found) (node : Node) → IsNamed n → get n.volume.nodes found.fileid ≡ Some found.node
+    → Ends Telling n.volume (remove_found n found node)
+remove_found_ends n found (File f) e at = gone_ends n found e at
+remove_found_ends n found (Directory d) e at = fails _ _ _
+remove_found_ends n found (Special s) e at = gone_ends n found e at
 
-remove_at_ends : (n : Naming) (o : Option Found) → IsNamed n → Ends Telling n.volume (remove_at n o)
-remove_at_ends n None e = fails _ _ _
-remove_at_ends n (Some found) e = remove_node_ends n found.fileid found.node e
+remove_at_ends : (n : Naming) (o : Option Found) → IsNamed n → IsThere n.volume.nodes o → Ends Telling n.volume (remove_at n o)
+remove_at_ends n None e at = fails _ _ _
+remove_at_ends n (Some found) e at = remove_found_ends n found found.node e at
 
 pub remove_ends : (n : Naming) → IsNamed n → Ends Telling n.volume (remove_name n)
-remove_ends n e = if_ends Telling n.volume (is_dots n.name) _ _ (fails _ _ _) (remove_at_ends n (named_child n) e)
+remove_ends n e =
+    if_ends Telling n.volume (is_dots n.name) _ _ (fails _ _ _)
+    (remove_at_ends n (named_child n) e (is_there n.volume (find_name n.name n.directory.list)))
 
-rmdir_node_ends : (n : Naming) (fileid : ℕ) (node : Node) → IsNamed n → Ends Telling n.volume (rmdir_node n fileid node)
-rmdir_node_ends n fileid (File f) e = fails _ _ _
-rmdir_node_ends n fileid (Directory d) e = empty_ends Telling n.volume d.list _ (gone_ends n fileid e)
+rmdir_found_ends : (n : Naming) (found : Found) (node : Node) → IsNamed n → get n.volume.nodes found.fileid ≡ Some found.node
+    → Ends Telling n.volume (rmdir_found n found node)
+rmdir_found_ends n found (File f) e at = fails _ _ _
+rmdir_found_ends n found (Directory d) e at = empty_ends Telling n.volume d.list _ (gone_ends n found e at)
+rmdir_found_ends n found (Special s) e at = fails _ _ _
 
-rmdir_at_ends : (n : Naming) (o : Option Found) → IsNamed n → Ends Telling n.volume (rmdir_at n o)
-rmdir_at_ends n None e = fails _ _ _
-rmdir_at_ends n (Some found) e = rmdir_node_ends n found.fileid found.node e
+rmdir_at_ends : (n : Naming) (o : Option Found) → IsNamed n → IsThere n.volume.nodes o → Ends Telling n.volume (rmdir_at n o)
+rmdir_at_ends n None e at = fails _ _ _
+rmdir_at_ends n (Some found) e at = rmdir_found_ends n found found.node e at
 
 pub rmdir_ends : (n : Naming) → IsNamed n → Ends Telling n.volume (rmdir n)
 rmdir_ends n e =
     if_ends Telling n.volume (same_name n.name dot) _ _ (fails _ _ _)
-    (if_ends Telling n.volume (same_name n.name dot_dot) _ _ (fails _ _ _) (rmdir_at_ends n (named_child n) e))
+    (if_ends Telling n.volume (same_name n.name dot_dot) _ _ (fails _ _ _)
+    (rmdir_at_ends n (named_child n) e (is_there n.volume (find_name n.name n.directory.list))))
 
 renamed_ends : (r : Renaming) (new : VolumeState) → Keeps r.from.volume new → Ends Telling r.from.volume (rename_told r new)
 renamed_ends r new k = changes Telling _ _ new refl (k, (ToldRenamed _ _, (refl, refl)))
 
-rename_at_ends : (r : Renaming) (from to : Option Found) → Ends Telling r.from.volume (rename_at r from to)
-rename_at_ends r None to = fails _ _ _
-rename_at_ends r (Some found) to =
+rename_at_ends : (r : Renaming) (from to : Option Found) → IsThere r.from.volume.nodes to → Ends Telling r.from.volume (rename_at r from to)
+rename_at_ends r None to t = fails _ _ _
+rename_at_ends r (Some found) to t =
     let old = r.from.volume in
-    if_ends Telling old (is_same_entry r) _ _ (tells Telling _ _ (same _, (ToldRenamed _ _, (refl, refl))))
+    if_ends Telling old (is_node_of found.fileid to) _ _ (tells Telling _ _ (same _, (ToldRenamed _ _, (refl, refl))))
     (unless_ends Telling old (climb_fault (met_above r found.fileid found.node)) _
     (if_ends Telling old (not (may_go found.node to)) _ _ (fails _ _ model.Exists)
     (renamed_ends r (renamed_volume r found.fileid to)
-    (others old (renamed_volume r found.fileid to) refl refl refl (λ b. renamed_below old.next r found.fileid to old.nodes b)))))
+    (others old (renamed_volume r found.fileid to) refl refl refl (λ b. renamed_below old.next r found.fileid to old.nodes t b)))))
 
-rename_in_ends : (r : Renaming) → Ends Telling r.from.volume (rename_in r)
-rename_in_ends r =
+rename_in_ends : (r : Renaming) → IsThere r.from.volume.nodes (named_child r.to) → Ends Telling r.from.volume (rename_in r)
+rename_in_ends r t =
     unless_ends Telling r.from.volume (name_fault r.from.name) _
     (unless_ends Telling r.from.volume (name_fault r.to.name) _
-    (if_ends Telling r.from.volume _ _ _ (fails _ _ _) (rename_at_ends r (named_child r.from) (named_child r.to))))
+    (if_ends Telling r.from.volume _ _ _ (fails _ _ _) (rename_at_ends r (named_child r.from) (named_child r.to) t)))
 
 pub rename_ends : (from_name to_name : List ℕ) (moment : model.Moment) (volume : VolumeState) (from to : ℕ)
     → Ends Telling volume (rename from_name to_name moment volume from to)
@@ -286,7 +338,37 @@ rename_ends from_name to_name moment volume from to =
     rename_in_ends (record {
       from = record { volume = volume; fileid = from; directory = d; name = from_name; moment = moment };
       to = record { volume = volume; fileid = to; directory = e; name = to_name; moment = moment };
-    })))
+    }) (is_there volume (find_name to_name e.list))))
+
+linked_ends : (n : Naming) (object : Found) → IsNamed n → get n.volume.nodes object.fileid ≡ Some object.node → Ends Telling n.volume (linked n object)
+linked_ends n object e at =
+    let node : Node = with_link n.moment object.node in
+    changes Telling n.volume _ (with_another n object) refl (
+      others n.volume (with_another n object) refl refl refl (λ b.
+          insert_below n.volume.next (insert n.volume.nodes object.fileid node) n.fileid (directory_linked n object.fileid) (b n.fileid _ e)
+          (insert_below n.volume.next n.volume.nodes object.fileid node (b object.fileid object.node at) b)),
+      (ToldLinked _ _, (refl, refl)),
+    )
+
+link_at_ends : (object : Found) (n : Naming) (o : Option Found) → IsNamed n → get n.volume.nodes object.fileid ≡ Some object.node
+    → Ends Telling n.volume (link_at object n o)
+link_at_ends object n (Some found) e at = fails _ _ _
+link_at_ends object n None e at = unless_ends Telling n.volume (links_fault object.node) _ (linked_ends n object e at)
+
+link_name_ends : (object : Found) (n : Naming) → IsNamed n → get n.volume.nodes object.fileid ≡ Some object.node
+    → Ends Telling n.volume (link_name object n)
+link_name_ends object n e at =
+    if_ends Telling n.volume (is_dots n.name) _ _ (fails _ _ _) (link_at_ends object n (named_child n) e at)
+
+pub link_ends : (name : List ℕ) (moment : model.Moment) (volume : VolumeState) (fileid directory : ℕ)
+    → Ends Telling volume (link name moment volume fileid directory)
+link_ends name moment volume fileid directory =
+    node_ends Telling volume (get volume.nodes fileid) _ (λ node at.
+    unless_ends Telling volume (directory_fault node) _
+    (directory_ends Telling volume (get volume.nodes directory) _ (λ d e.
+    unless_ends Telling volume (name_fault name) _
+    (link_name_ends (record { fileid = fileid; node = node })
+    (record { volume = volume; fileid = directory; directory = d; name = name; moment = moment }) e at))))
 
 -- ---- procedures that only tell
 
@@ -304,6 +386,20 @@ module _ (Q : Fact) (stays : (volume : VolumeState) (answer : model.Answer) → 
   pub found_ends : (n : Naming) (o : Option Found) → Ends Q n.volume (lookup_told n o)
   found_ends n None = fails _ _ _
   found_ends n (Some found) = stays_told n.volume _
+
+  text_ends : (volume : VolumeState) (fileid : ℕ) (s : SpecialNode) (special : model.SpecialType)
+      → Ends Q volume (if_link special (Tells (model.ReadlinkDone (shown volume fileid (Special s)) s.text)))
+  text_ends volume fileid s model.SymbolicLink = stays_told volume _
+  text_ends volume fileid s special = fails Q volume model.Invalid
+
+  link_read_ends : (volume : VolumeState) (fileid : ℕ) (node : Node)
+      → Ends Q volume (on_link node (λ s. Tells (model.ReadlinkDone (shown volume fileid (Special s)) s.text)))
+  link_read_ends volume fileid (File f) = fails Q volume model.Invalid
+  link_read_ends volume fileid (Directory d) = fails Q volume model.Invalid
+  link_read_ends volume fileid (Special s) = text_ends volume fileid s s.special
+
+  pub readlink_ends : (volume : VolumeState) (fileid : ℕ) → Ends Q volume (readlink volume fileid)
+  readlink_ends volume fileid = node_ends Q volume (get volume.nodes fileid) _ (λ node e. link_read_ends volume fileid node)
 
   pub read_ends : (offset count : ℕ) (volume : VolumeState) (fileid : ℕ) → Ends Q volume (read offset count volume fileid)
   read_ends offset count volume fileid =
