@@ -6,6 +6,7 @@ mod Leaving
 mod Pages
 mod PagesPlus
 mod Renaming
+mod Linking
 mod Bytes
 mod Administration
 mod Mounting
