@@ -19,7 +19,7 @@ use Rattle.nfs_model.specs.Shown.{shown}
 use Rattle.nfs_model.specs.Names.{is_dots, name_fault, find_name, same_name, dot, dot_dot}
 use Rattle.nfs_model.specs.Locate.{Effect, Fails, Tells, Changes, unless, on_node, on_directory, on_file, Located, located_in, located_by, locate, Found}
 use Rattle.nfs_model.specs.Locate.{Naming, is_node_of, named_child, on_name}
-use Rattle.nfs_model.specs.Memo.{Change, Sets, Creates, MakesDirectory, MakesLink, MakesNode, Removes, RemovesDirectory, Renames, Links, Memo}
+use Rattle.nfs_model.specs.Memo.{Change, Sets, Creates, MakesDirectory, MakesSymbolicLink, MakesNode, Removes, RemovesDirectory, Renames, Links, Memo}
 use Rattle.nfs_model.specs.Memo.{Told, ToldSet, ToldMade, ToldGone, ToldRenamed, ToldLinked}
 use Rattle.nfs_model.specs.Serial.Same.{same_caller, same_change}
 use Rattle.nfs_model.specs.Serial.Once.{is_short, change_of, place, is_recent, is_of, told_in, told_among, told_before, answer_told, told_of, memos_with}
@@ -29,12 +29,12 @@ use Rattle.nfs_model.specs.Serial.Setattr.{set_taken, set_node, setattr}
 use Rattle.nfs_model.specs.Serial.Getattr.{getattr, tell_of}
 use Rattle.nfs_model.specs.Serial.Access.{access_given}
 use Rattle.nfs_model.specs.Serial.Lookup.{looked_up, lookup_told, lookup}
-use Rattle.nfs_model.specs.Serial.Readlink.{if_link, on_link, readlink}
+use Rattle.nfs_model.specs.Serial.Readlink.{if_symbolic, on_symbolic, readlink}
 use Rattle.nfs_model.specs.Serial.Read.{read}
 use Rattle.nfs_model.specs.Serial.Write.{Writing, bytes_kept, write_fault, space_fault, write_some, write}
 use Rattle.nfs_model.specs.Serial.Create.{maker, new_file, directory_made, made, told_as_it_is, create_over, create_at, create}
-use Rattle.nfs_model.specs.Serial.Mkdir.{new_directory, mkdir_at, mkdir}
-use Rattle.nfs_model.specs.Serial.Symlink.{most_text, text_fault, new_fault, new_special, symlink_at, symlink}
+use Rattle.nfs_model.specs.Serial.Mkdir.{mkdir_fault, new_directory, mkdir_at, mkdir}
+use Rattle.nfs_model.specs.Serial.Symlink.{most_text, text_fault, new_special, symlink_at, symlink}
 use Rattle.nfs_model.specs.Serial.Mknod.{if_made, mknod_kind, mknod_at, mknod}
 use Rattle.nfs_model.specs.Serial.Remove.{directory_left, gone, remove_found, remove_at, remove_name}
 use Rattle.nfs_model.specs.Serial.Rmdir.{if_empty, rmdir_found, rmdir_at, rmdir}
@@ -195,12 +195,12 @@ lookup_fits : (n : Naming) → Fits lookup_room n.volume (lookup n)
 lookup_fits n = found_fits n (looked_up n)
 
 link_text_fits : (old : VolumeState) (fileid : ℕ) (s : SpecialNode) (special : model.SpecialType) → length s.text ≤ most_text
-    → Fits readlink_room old (if_link special (Tells (model.ReadlinkDone (shown old fileid (Special s)) s.text)))
+    → Fits readlink_room old (if_symbolic special (Tells (model.ReadlinkDone (shown old fileid (Special s)) s.text)))
 link_text_fits old fileid s model.SymbolicLink h = tells _ _ _ (readlink_size _ s.text most_text h)
 link_text_fits old fileid s special h = fails _ _ _
 
 link_fits_on : (old : VolumeState) (fileid : ℕ) (node : Node) → HasShortText node
-    → Fits readlink_room old (on_link node (λ s. Tells (model.ReadlinkDone (shown old fileid (Special s)) s.text)))
+    → Fits readlink_room old (on_symbolic node (λ s. Tells (model.ReadlinkDone (shown old fileid (Special s)) s.text)))
 link_fits_on old fileid (File f) h = fails _ _ _
 link_fits_on old fileid (Directory d) h = fails _ _ _
 link_fits_on old fileid (Special s) h = link_text_fits old fileid s s.special h
@@ -283,7 +283,7 @@ symlink_at_fits : (n : Naming) (set : model.SetAttributes) (text : List ℕ) (ca
 symlink_at_fits n set text caller (Some found) = fails _ _ _
 symlink_at_fits n set text caller None =
     text_knowing n.volume text _ (λ h.
-    unless_fits made_room n.volume (new_fault n.volume set) _ (made_fits n (new_special model.SymbolicLink 511 set text (maker caller n) n.moment) h))
+    unless_fits made_room n.volume (mkdir_fault n.volume set) _ (made_fits n (new_special model.SymbolicLink 511 set text (maker caller n) n.moment) h))
 
 symlink_fits : (set : model.SetAttributes) (text : List ℕ) (caller : model.Caller) (n : Naming) → Fits made_room n.volume (symlink set text caller n)
 symlink_fits set text caller n = if_fits made_room n.volume (is_dots n.name) _ _ (fails _ _ _) (symlink_at_fits n set text caller (named_child n))
@@ -300,7 +300,7 @@ mknod_kind_fits : (n : Naming) (kind : model.Kind) (set : model.SetAttributes) (
 mknod_kind_fits n model.Regular set caller = fails _ _ _
 mknod_kind_fits n model.DirectoryKind set caller = fails _ _ _
 mknod_kind_fits n (model.SpecialKind special) set caller =
-    if_made_fits n.volume special _ (unless_fits made_room n.volume (new_fault n.volume set) _
+    if_made_fits n.volume special _ (unless_fits made_room n.volume (mkdir_fault n.volume set) _
     (made_fits n (new_special special 420 set [] (maker caller n) n.moment) (omega arith)))
 
 mknod_at_fits : (n : Naming) (kind : model.Kind) (set : model.SetAttributes) (caller : model.Caller) (o : Option Found)
@@ -565,7 +565,7 @@ same_results : (a b : Change) → same_change a b ≡ true → change_results a 
 same_results (Sets h a g) (Sets k b i) e = refl
 same_results (Creates d n m) (Creates f o p) e = refl
 same_results (MakesDirectory d n a) (MakesDirectory f o b) e = refl
-same_results (MakesLink d n a t) (MakesLink f o b u) e = refl
+same_results (MakesSymbolicLink d n a t) (MakesSymbolicLink f o b u) e = refl
 same_results (MakesNode d n k a) (MakesNode f o l b) e = refl
 same_results (Removes d n) (Removes f o) e = refl
 same_results (RemovesDirectory d n) (RemovesDirectory f o) e = refl
@@ -830,7 +830,7 @@ serve_fits volumes server (model.Mkdir directory name set) caller moment r =
     (unless_fits made_room v _ _ (name_fits made_room name moment _ v f (mkdir_fits set caller)))) (omega arith) r
 serve_fits volumes server (model.Symlink directory name set text) caller moment r =
     on_fits made_room volumes server 2 directory _ (λ v f e m t. once_fits made_room caller (model.Symlink directory name set text) moment (inr (omega arith))
-    (if_results (is_short directory name && nat_le (length text) most_text) (MakesLink directory name set text)) v _ m
+    (if_results (is_short directory name && nat_le (length text) most_text) (MakesSymbolicLink directory name set text)) v _ m
     (unless_fits made_room v _ _ (name_fits made_room name moment _ v f (symlink_fits set text caller)))) (omega arith) r
 serve_fits volumes server (model.Mknod directory name kind set) caller moment r =
     on_fits made_room volumes server 2 directory _ (λ v f e m t. once_fits made_room caller (model.Mknod directory name kind set) moment (inr (omega arith))

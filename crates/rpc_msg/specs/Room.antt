@@ -3,7 +3,7 @@ use Rattle.std.specs.Prelude.{◌≡◌, ℕ, ◌+◌, ◌*◌, ◌/◌, min, ma
 use Rattle.std.specs.Ordering.{nat_cmp}
 use Rattle.std.specs.FinMap.{FinMap, get}
 use Rattle.nfs_model.specs.Types as model
-use Rattle.nfs_model.specs.Memo.{Change, Sets, Creates, MakesDirectory, MakesLink, MakesNode, Removes, RemovesDirectory, Renames, Links}
+use Rattle.nfs_model.specs.Memo.{Change, Sets, Creates, MakesDirectory, MakesSymbolicLink, MakesNode, Removes, RemovesDirectory, Renames, Links}
 use Rattle.nfs_model.specs.Memo.{Told, ToldSet, ToldMade, ToldGone, ToldRenamed, ToldLinked, Memo}
 use Rattle.nfs_model.specs.Server.{Node, File, Directory, Special, VolumeState, Server, most_bytes}
 use Rattle.nfs_model.specs.Serial.Symlink.{most_text}
@@ -92,7 +92,7 @@ abbrev pub change_results : Change → ℕ
 change_results (Sets handle set guard) = 4 + change_room
 change_results (Creates directory name mode) = made_room
 change_results (MakesDirectory directory name set) = made_room
-change_results (MakesLink directory name set text) = made_room
+change_results (MakesSymbolicLink directory name set text) = made_room
 change_results (MakesNode directory name kind set) = made_room
 change_results (Removes directory name) = 4 + change_room
 change_results (RemovesDirectory directory name) = 4 + change_room

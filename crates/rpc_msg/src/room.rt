@@ -39,7 +39,7 @@ fn results_room(call: &Call, volumes: u32) -> usize
         Call::SetAttributes { .. } => 4 + CHANGE_ROOM,
         Call::Lookup(_) => 4 + 24 + 88 + 88,
         Call::CheckAccess { .. } => 4 + 88 + 4,
-        Call::ReadLink { .. } => 4 + 88 + 4 + MOST_TEXT,
+        Call::ReadLink { .. } => 4 + 88 + 4 + padded_size(MOST_TEXT as u32),
         Call::Read { count, .. } => 20 + padded_size((*count).min(COUNT_LIMIT)),
         Call::Write { .. } => 4 + 8 + 4 + 4 + 8,
         Call::Create { .. } => MADE_ROOM,
