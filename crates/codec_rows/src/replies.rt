@@ -114,8 +114,8 @@ fn rooms_are_reached(rt: HostRuntime) {
         Call::PathConfiguration { handle: root() },
         144,
     );
-    // of a text of 4,095 bytes
-    takes(&rt, "READLINK", Call::ReadLink { handle: root() }, 4_220);
+    // of a text of 1,024 bytes
+    takes(&rt, "READLINK", Call::ReadLink { handle: root() }, 1_148);
     let grow = Call::Grow {
         volume: VolumeNumber(0),
         ranges: 1,

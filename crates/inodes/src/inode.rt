@@ -2,7 +2,7 @@
 
 ghost use Rattle.std.specs.Prelude.{◌≡◌};
 
-use nfs_values::{Fileid, Moment, Ownership, Verifier};
+use nfs_values::{Fileid, Moment, Ownership, SpecialType, Verifier};
 
 /// What is stored of a node's attributes (fattr3, RFC 1813 section 2.6).
 #[derive(Clone, Copy, Debug, PartialEq, Eq)]
@@ -32,12 +32,20 @@ pub enum InodeKind {
         /// How many of its entries are directories.
         subdirectories: u32,
     },
+    /// A symbolic link, a FIFO, a socket or a device.
+    Special {
+        special: SpecialType,
+        /// The length of a symbolic link's text in bytes, else 0.
+        size: u32,
+    },
 }
 
 /// A node's attributes, and what a reply shows beside them (RFC 1813 section 2.6).
 #[derive(Clone, Copy, Debug, PartialEq, Eq)]
 pub struct Inode {
     pub attributes: StoredAttributes,
+    /// How many entries of directories name it; the root has none.
+    pub names: u32,
     pub kind: InodeKind,
 }
 
@@ -80,13 +88,14 @@ impl InodeKind {
     ghost use Rattle.nfs_model.specs.volume.Inodes.{filled_blocks};
     ghost use Rattle.inodes.specs.Inode.{kind_value};
 
-    /// The filled blocks of a file; a directory has none.
+    /// The filled blocks of a file; all else has none.
     pub fn filled(self) -> u32
         ensures { result ≡ filled_blocks (kind_value self) }
     {
         match self {
             InodeKind::RegularFile { filled, .. } => filled,
             InodeKind::Directory { .. } => 0,
+            InodeKind::Special { .. } => 0,
         }
     }
 }
@@ -112,6 +121,7 @@ impl Inode {
                 mtime: begun,
                 ctime: begun,
             },
+            names: 0,
             kind: InodeKind::Directory {
                 parent: Fileid::ROOT,
                 subdirectories: 0,
@@ -135,7 +145,7 @@ impl Inode {
     {
         Inode {
             attributes: self.attributes.with_touch(touch),
-            kind: self.kind,
+            ..self
         }
     }
 }

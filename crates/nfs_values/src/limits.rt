@@ -19,7 +19,7 @@ pub const COUNT_LIMIT: u32 = 65_536;
 pub const MOST_LINKS: u32 = 65_000;
 
 /// The most bytes of the text of a symbolic link.
-pub const MOST_TEXT: usize = 4_095;
+pub const MOST_TEXT: usize = 1_024;
 
 /// The nanoseconds of a second: those of a moment are fewer (RFC 1813 section 2.6).
 pub const NANOSECONDS_OF_A_SECOND: u32 = 1_000_000_000;

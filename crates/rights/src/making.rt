@@ -1,4 +1,5 @@
-//! Attributes of what a caller makes (CREATE and MKDIR, RFC 1813 sections 3.3.8 and 3.3.9).
+//! Attributes of what a caller makes (CREATE, MKDIR, SYMLINK and MKNOD, RFC 1813 sections 3.3.8 to
+//! 3.3.11).
 
 ghost use Rattle.std.specs.Prelude.{◌≡◌, ◌<◌, ◌≤◌};
 ghost use Rattle.nfs_model.specs.Serial.Create.{
@@ -139,6 +140,7 @@ impl Maker<'_> {
         match kind {
             FileKind::Regular => mode_of_group(&self.caller.credential, gid, mode) as u16,
             FileKind::Directory => self.mode_of_directory(gid, mode) as u16,
+            FileKind::Special(_) => mode_of_group(&self.caller.credential, gid, mode) as u16,
         }
     }
 }

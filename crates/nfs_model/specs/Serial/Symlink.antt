@@ -9,9 +9,9 @@ use Rattle.nfs_model.specs.Locate.{Effect, Fails, unless, Found, Naming, named_c
 use Rattle.nfs_model.specs.Serial.Create.{Maker, maker, new_attributes, made}
 use Rattle.nfs_model.specs.Serial.Mkdir.{mkdir_fault}
 
--- the longest text, in bytes (our profile): the longest path of POSIX, PATH_MAX, without the byte 0 at its end
+-- the longest text, in bytes (our profile)
 abbrev pub most_text : ℕ
-most_text = 4095
+most_text = 1024
 
 -- what is wrong with a text: too long; empty; byte 0 (our profile)
 abbrev pub text_fault : List ℕ → Option Status
