@@ -23,3 +23,6 @@ mod Permitted
 mod Named
 mod Owned
 mod Reading
+mod Linked
+mod Symlinks
+mod Nodes
