@@ -26,3 +26,6 @@ mod Reading
 mod Linked
 mod Symlinks
 mod Nodes
+mod Links
+mod LinksPermitted
+mod LinksAgain
