@@ -80,11 +80,11 @@ without_inodes = record {
   volumes = record (volume_with 1024 16777216 2 ((1, root_with 3 []) ∷ [])) { most_inodes = 1 } ∷ (opening_volume verifier 1 one_range ∷ []);
 }
 
--- the root with the node `a`, of fileid 2, and one inode besides
-abbrev pub with_one_inode : Node → Server
-with_one_inode node = record {
+-- the root with the node `a`, of fileid 2, and this many inodes at most
+abbrev pub with_inodes : ℕ → Node → Server
+with_inodes most node = record {
   spare = 1 ∷ [];
-  volumes = record (volume_with 1024 16777216 3 ((1, root_with 4 (entry 3 a 2 ∷ [])) ∷ ((2, node) ∷ []))) { most_inodes = 3 }
+  volumes = record (volume_with 1024 16777216 3 ((1, root_with 4 (entry 3 a 2 ∷ [])) ∷ ((2, node) ∷ []))) { most_inodes = most }
       ∷ (opening_volume verifier 1 one_range ∷ []);
 }
 

@@ -3,16 +3,17 @@
 use Rattle.std.proofs.Common.{◌≡◌, ℕ, true, false, List, [], ◌∷◌, replicate, Some, None, refl}
 use Rattle.nfs_model.specs.Types.{Shown, SymbolicLink, Fifo, Socket, Unchecked, Exclusive, Getattr, Setattr, Lookup, Readlink, Read, Create}
 use Rattle.nfs_model.specs.Types.{Remove, Rename, Link, Readdir, Readdirplus, Fsstat, Ask, Success, GetattrDone, LookupDone, ReadlinkDone, ReadDone}
-use Rattle.nfs_model.specs.Types.{MadeDone, GoneDone, RenameDone, LinkDone, ReaddirDone, ReaddirplusDone, FsstatDone, NoEntry, Access, Exists}
+use Rattle.nfs_model.specs.Types.{MadeDone, GoneDone, RenameDone, LinkDone, ReaddirDone, ReaddirplusDone, FsstatDone, NoEntry, Access, Exists, NotSynchronous, SetattrDone}
 use Rattle.nfs_model.specs.Types.{CrossVolume, NotDirectory, IsDirectory, Invalid, TooManyLinks, NameTooLong, Stale, BadHandle}
 use Rattle.nfs_model.specs.Server.{Node, File, Server, handle_bytes}
 use Rattle.nfs_model.specs.Serial.Create.{no_attributes}
+use Rattle.nfs_model.specs.Serial.Starve.{may_starve_later}
 use Rattle.nfs_model.specs.Serial.Step.{stay, serial}
 use Rattle.nfs_laws.specs.lemmas.Evaluate.{evaluate}
-use Rattle.nfs_laws.proofs.rows.Cases.{start, at, nobody, h, root, fails, a, b, d, e, f, x, entry, write_at, sized, no_blocks, stored, file, directory}
+use Rattle.nfs_laws.proofs.rows.Cases.{start, at, nobody, h, root, fails, a, b, d, e, f, x, entry, write_at, sized, no_blocks, stored, file, exclusive_file, directory}
 use Rattle.nfs_laws.proofs.rows.Cases.{with_file, with_tree, root_shown, directory_shown, file_shown, before, changed}
 use Rattle.nfs_laws.proofs.rows.Linked.{disk, special_node, symbolic_link, special_file, named_file, named_touched_file, two_names, across, beside}
-use Rattle.nfs_laws.proofs.rows.Linked.{three_names, special_shown, symbolic_link_shown, named_shown}
+use Rattle.nfs_laws.proofs.rows.Linked.{three_names, with_inodes, special_shown, symbolic_link_shown, named_shown}
 
 -- ---- LINK: checks in order
 
@@ -208,6 +209,25 @@ two_names_take_one_inode :
     ≡ Success (FsstatDone (root_shown 2 1) (record { total_bytes = 4194304; free_bytes = 4190208; inodes = 65536; free_inodes = 65534 }))
 two_names_take_one_inode = simp evaluate refl
 
+-- LINK takes none: there are the root and the file
+link_without_inodes :
+    (serial (with_inodes 2 (named_file 1)) (Ask (Link (h 2) root b) nobody) (at 2) false).reply
+    ≡ Success (LinkDone (named_shown 2 2 2) (changed (before 4096 1 1) (root_shown 2 2)))
+link_without_inodes = simp evaluate refl
+
+-- ctime was 1 second
+guard_of_before_a_link :
+    (serial (serial (with_file (named_file 1)) (Ask (Link (h 2) root b) nobody) (at 2) false).server
+    (Ask (Setattr (h 2) no_attributes (Some (at 1))) nobody) (at 3) false).reply
+    ≡ fails NotSynchronous 2
+guard_of_before_a_link = simp evaluate refl
+
+guard_of_after_a_link :
+    (serial (serial (with_file (named_file 1)) (Ask (Link (h 2) root b) nobody) (at 2) false).server
+    (Ask (Setattr (h 2) no_attributes (Some (at 2))) nobody) (at 3) false).reply
+    ≡ Success (SetattrDone (changed (before 1 1 2) (named_shown 2 2 3)))
+guard_of_after_a_link = simp evaluate refl
+
 -- ---- REMOVE of one of two names
 
 removed_name :
@@ -314,6 +334,11 @@ replacing_file_is_there :
     ≡ Success (LookupDone (h 2) (file_shown 2 0 0 1 2) (root_shown 2 2))
 replacing_file_is_there = simp evaluate refl
 
+renamed_file_keeps_its_name_in_another_directory :
+    (serial (serial (across (named_file 2)) (Ask (Rename root a (h 3) x) nobody) (at 2) false).server (Ask (Lookup (h 3) b) nobody) (at 3) false).reply
+    ≡ Success (LookupDone (h 2) (named_shown 2 2 2) (record (directory_shown 3 2 2) { atime = at 1 }))
+renamed_file_keeps_its_name_in_another_directory = simp evaluate refl
+
 -- it moves, and keeps its count
 renamed_file_keeps_its_other_name :
     (serial (serial (two_names (named_file 2)) (Ask (Rename root a root x) nobody) (at 2) false).server (Ask (Lookup root b) nobody) (at 3) false).reply
@@ -407,6 +432,12 @@ exclusive_creation_of_another_verifier_by_another_name :
     ≡ fails Exists 2
 exclusive_creation_of_another_verifier_by_another_name = simp evaluate refl
 
+verifier_lives_through_link_and_remove :
+    (serial (serial (serial (with_file (exclusive_file 1)) (Ask (Link (h 2) root b) nobody) (at 2) false).server
+    (Ask (Remove root a) nobody) (at 3) false).server (Ask (Create root b (Exclusive (replicate 8 1))) nobody) (at 4) false).reply
+    ≡ Success (MadeDone (h 2) (file_shown 2 0 0 1 3) (changed (before 4096 3 3) (root_shown 2 3)))
+verifier_lives_through_link_and_remove = simp evaluate refl
+
 unchecked_creation_cuts_under_both_names :
     (serial (serial (two_names (named_file 2)) (Ask (Create root b (Unchecked (sized 0))) nobody) (at 2) false).server (Ask (Lookup root a) nobody)
     (at 3) false).reply
@@ -423,3 +454,24 @@ write_keeps_the_count :
     (serial (serial (two_names (named_file 2)) (Ask (write_at 2 0 (5 ∷ [])) nobody) (at 2) false).server (Ask (Getattr (h 2)) nobody) (at 3) false).reply
     ≡ Success (GetattrDone (record (named_shown 2 2 2) { mtime = at 2 }))
 write_keeps_the_count = simp evaluate refl
+
+-- ---- what may take memory where it succeeds: a text that is told, a new entry (our profile)
+
+readlink_may_starve : may_starve_later (with_file (symbolic_link d)) (Ask (Readlink (h 2)) nobody) (at 2) ≡ true
+readlink_may_starve = simp evaluate refl
+
+readlink_of_a_fifo_may_not_starve : may_starve_later (with_file (special_file Fifo)) (Ask (Readlink (h 2)) nobody) (at 2) ≡ false
+readlink_of_a_fifo_may_not_starve = simp evaluate refl
+
+rename_to_a_new_name_may_starve : may_starve_later (two_names (named_file 2)) (Ask (Rename root a root x) nobody) (at 2) ≡ true
+rename_to_a_new_name_may_starve = simp evaluate refl
+
+rename_to_another_name_may_not_starve : may_starve_later (two_names (named_file 2)) (Ask (Rename root a root b) nobody) (at 2) ≡ false
+rename_to_another_name_may_not_starve = simp evaluate refl
+
+rename_over_one_of_two_names_may_starve :
+    may_starve_later (three_names (named_file 1) (named_file 2)) (Ask (Rename root a root b) nobody) (at 2) ≡ true
+rename_over_one_of_two_names_may_starve = simp evaluate refl
+
+removal_of_one_of_two_names_may_not_starve : may_starve_later (two_names (named_file 2)) (Ask (Remove root a) nobody) (at 2) ≡ false
+removal_of_one_of_two_names_may_not_starve = simp evaluate refl

@@ -1,5 +1,5 @@
 -- READLINK, SYMLINK, MKNOD and LINK, and what has several names, by the owner, the groups and the mode (RFC 1813 sections 2.5, 3.3.2,
--- 3.3.4, 3.3.5, 3.3.10 to 3.3.12, 3.3.14 and 3.3.15; POSIX, link, mknod, symlink, unlink and S_ISVTX).
+-- 3.3.4, 3.3.5, 3.3.10 to 3.3.12, 3.3.14 and 3.3.15; POSIX, bind, link, mknod, symlink, unlink and S_ISVTX).
 use Rattle.std.proofs.Common.{◌≡◌, ℕ, true, false, List, [], ◌∷◌, replicate, Some, None, refl}
 use Rattle.nfs_model.specs.Types.{Shown, SpecialType, SymbolicLink, Fifo, Socket, Regular, SpecialKind, ServerTime, Setattr, Lookup, CheckAccess}
 use Rattle.nfs_model.specs.Types.{Readlink, Symlink, Mknod, Remove, Rename, Link, Ask, Success, SetattrDone, AccessDone, ReadlinkDone, MadeDone}

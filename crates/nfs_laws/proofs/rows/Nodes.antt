@@ -3,15 +3,16 @@
 use Rattle.std.proofs.Common.{◌≡◌, ℕ, true, false, List, [], ◌∷◌, replicate, Some, None, refl}
 use Rattle.nfs_model.specs.Types.{SymbolicLink, Fifo, Socket, BlockDevice, CharacterDevice, Regular, DirectoryKind, SpecialKind}
 use Rattle.nfs_model.specs.Types.{ServerTime, ClientTime, Unchecked, Guarded, Exclusive, Getattr, Setattr, Lookup, CheckAccess, Read, Write}
-use Rattle.nfs_model.specs.Types.{Create, Mkdir, Mknod, Remove, Rmdir, Rename, Readdir, Readdirplus, Fsstat, Commit, Ask, Success, GetattrDone}
-use Rattle.nfs_model.specs.Types.{SetattrDone, AccessDone, MadeDone, GoneDone, RenameDone, ReaddirplusDone, FsstatDone, LookupDone}
+use Rattle.nfs_model.specs.Types.{Create, Mkdir, Mknod, Remove, Rmdir, Rename, Link, Readdir, Readdirplus, Fsstat, Commit, Ask, Success, GetattrDone}
+use Rattle.nfs_model.specs.Types.{SetattrDone, AccessDone, MadeDone, GoneDone, RenameDone, LinkDone, ReaddirplusDone, FsstatDone, LookupDone}
 use Rattle.nfs_model.specs.Types.{NoEntry, Access, Exists, NotDirectory, Invalid, NoSpace, NameTooLong, Stale, BadHandle, NotSynchronous, BadType}
+use Rattle.nfs_model.specs.Server.{handle_bytes}
 use Rattle.nfs_model.specs.Serial.Create.{no_attributes}
 use Rattle.nfs_model.specs.Serial.Step.{stay, serial}
 use Rattle.nfs_laws.specs.lemmas.Evaluate.{evaluate}
 use Rattle.nfs_laws.proofs.rows.Cases.{start, at, nobody, h, root, fails, a, b, f, x, entry, write_at, no_blocks, file, with_file, with_tree, root_shown}
 use Rattle.nfs_laws.proofs.rows.Cases.{directory_shown, file_shown, before, changed}
-use Rattle.nfs_laws.proofs.rows.Linked.{disk, terminal, with_bad_time, special_node, special_file, without_inodes, with_one_inode, special_shown}
+use Rattle.nfs_laws.proofs.rows.Linked.{disk, terminal, with_bad_time, special_node, special_file, without_inodes, with_inodes, special_shown}
 
 -- ---- MKNOD: checks in order
 
@@ -152,7 +153,7 @@ fifo_as_given :
 fifo_as_given = simp evaluate refl
 
 fifo_of_the_last_inode :
-    (serial (with_one_inode (file [] no_blocks)) (Ask (Mknod root b (SpecialKind Fifo) no_attributes) nobody) (at 2) false).reply
+    (serial (with_inodes 3 (file [] no_blocks)) (Ask (Mknod root b (SpecialKind Fifo) no_attributes) nobody) (at 2) false).reply
     ≡ Success (MadeDone (h 3) (record (special_shown 3 Fifo 420 2) { atime = at 2; mtime = at 2 }) (changed (before 4096 1 1) (root_shown 2 2)))
 fifo_of_the_last_inode = simp evaluate refl
 
@@ -386,3 +387,18 @@ inode_of_a_removed_device_is_free :
     (serial (serial (with_file (special_file disk)) (Ask (Remove root a) nobody) (at 2) false).server (Ask (Fsstat root) nobody) (at 3) false).reply
     ≡ Success (FsstatDone (root_shown 2 2) (record { total_bytes = 4194304; free_bytes = 4194304; inodes = 65536; free_inodes = 65535 }))
 inode_of_a_removed_device_is_free = simp evaluate refl
+
+-- ---- another volume
+
+fifo_of_another_volume :
+    (serial start (Ask (Mknod (handle_bytes 1 1) a (SpecialKind Fifo) no_attributes) nobody) (at 2) false).reply
+    ≡ Success (MadeDone (handle_bytes 1 2) (record (special_shown 2 Fifo 420 2) { fsid = 1; atime = at 2; mtime = at 2 })
+    (changed (before 4096 0 0) (record (root_shown 2 2) { fsid = 1 })))
+fifo_of_another_volume = simp evaluate refl
+
+link_of_another_volume :
+    (serial (serial start (Ask (Mknod (handle_bytes 1 1) a (SpecialKind Fifo) no_attributes) nobody) (at 2) false).server
+    (Ask (Link (handle_bytes 1 2) (handle_bytes 1 1) b) nobody) (at 3) false).reply
+    ≡ Success (LinkDone (record (special_shown 2 Fifo 420 3) { fsid = 1; links = 2; atime = at 2; mtime = at 2 })
+    (changed (before 4096 2 2) (record (root_shown 2 3) { fsid = 1 })))
+link_of_another_volume = simp evaluate refl

@@ -1,15 +1,15 @@
 -- READLINK and SYMLINK (RFC 1813 sections 3.3.5 and 3.3.10; POSIX, readlink and symlink).
 use Rattle.std.proofs.Common.{◌≡◌, ℕ, false, List, [], ◌∷◌, replicate, Some, None, refl}
 use Rattle.nfs_model.specs.Types.{SymbolicLink, Fifo, Socket, SpecialKind, ServerTime, ClientTime, Getattr, Setattr, Lookup, Readlink, Symlink}
-use Rattle.nfs_model.specs.Types.{Remove, Rename, Fsstat, Ask, Success, GetattrDone, SetattrDone, LookupDone, ReadlinkDone, MadeDone, RenameDone}
-use Rattle.nfs_model.specs.Types.{FsstatDone, NoEntry, Access, Exists, NotDirectory, Invalid, NoSpace, NameTooLong, Stale, BadHandle}
+use Rattle.nfs_model.specs.Types.{Create, Remove, Rmdir, Rename, Readdir, MountBelow, Unchecked, Ask, Success, GetattrDone, SetattrDone, LookupDone, ReadlinkDone, MadeDone, GoneDone}
+use Rattle.nfs_model.specs.Types.{NoEntry, Access, Exists, NotDirectory, Invalid, NoSpace, NameTooLong, Stale, BadHandle}
 use Rattle.nfs_model.specs.Serial.Create.{no_attributes}
 use Rattle.nfs_model.specs.Serial.Symlink.{text_fault}
 use Rattle.nfs_model.specs.Serial.Step.{stay, serial}
 use Rattle.nfs_laws.specs.lemmas.Evaluate.{evaluate}
 use Rattle.nfs_laws.proofs.rows.Cases.{start, at, nobody, h, root, fails, a, b, d, f, x, no_blocks, file, with_file, with_tree, root_shown}
-use Rattle.nfs_laws.proofs.rows.Cases.{directory_shown, file_shown, before, changed}
-use Rattle.nfs_laws.proofs.rows.Linked.{disk, terminal, d_f, with_bad_time, symbolic_link, special_file, beside, without_inodes, with_one_inode}
+use Rattle.nfs_laws.proofs.rows.Cases.{directory, directory_shown, file_shown, before, changed}
+use Rattle.nfs_laws.proofs.rows.Linked.{disk, terminal, d_f, with_bad_time, symbolic_link, special_file, beside, without_inodes, with_inodes}
 use Rattle.nfs_laws.proofs.rows.Linked.{symbolic_link_shown}
 
 -- ---- READLINK
@@ -131,6 +131,11 @@ symlink_to_4096_bytes = simp evaluate refl
 text_of_4095_bytes : text_fault (replicate 4095 97) ≡ None
 text_of_4095_bytes = refl
 
+symlink_to_4095_bytes :
+    (serial start (Ask (Symlink root a no_attributes (replicate 4095 97)) nobody) (at 2) false).reply
+    ≡ Success (MadeDone (h 2) (record (symbolic_link_shown 2 4095 2) { atime = at 2; mtime = at 2 }) (changed (before 4096 0 0) (root_shown 2 2)))
+symlink_to_4095_bytes = simp evaluate refl
+
 symlink_to_no_bytes :
     (serial start (Ask (Symlink root a with_bad_time []) nobody) (at 2) false).reply
     ≡ fails NoEntry 2
@@ -177,7 +182,7 @@ symbolic_link_as_given :
 symbolic_link_as_given = simp evaluate refl
 
 symbolic_link_of_the_last_inode :
-    (serial (with_one_inode (file [] no_blocks)) (Ask (Symlink root b no_attributes a) nobody) (at 2) false).reply
+    (serial (with_inodes 3 (file [] no_blocks)) (Ask (Symlink root b no_attributes a) nobody) (at 2) false).reply
     ≡ Success (MadeDone (h 3) (record (symbolic_link_shown 3 1 2) { atime = at 2; mtime = at 2 }) (changed (before 4096 1 1) (root_shown 2 2)))
 symbolic_link_of_the_last_inode = simp evaluate refl
 
@@ -245,3 +250,43 @@ renamed_symbolic_link_keeps_its_text :
     (serial (serial (with_file (symbolic_link d_f)) (Ask (Rename root a root b) nobody) (at 2) false).server (Ask (Readlink (h 2)) nobody) (at 3) false).reply
     ≡ Success (ReadlinkDone (symbolic_link_shown 2 3 2) d_f)
 renamed_symbolic_link_keeps_its_text = simp evaluate refl
+
+lookup_in_a_symbolic_link_to_a_directory :
+    (serial (beside (directory 1 3 []) (symbolic_link a)) (Ask (Lookup (h 3) (replicate 256 97)) nobody) (at 2) false).reply
+    ≡ fails NotDirectory 1
+lookup_in_a_symbolic_link_to_a_directory = simp evaluate refl
+
+rmdir_of_a_symbolic_link_to_a_directory :
+    (serial (beside (directory 1 3 []) (symbolic_link a)) (Ask (Rmdir root b) nobody) (at 2) false).reply
+    ≡ fails NotDirectory 2
+rmdir_of_a_symbolic_link_to_a_directory = simp evaluate refl
+
+remove_of_a_symbolic_link_to_a_directory :
+    (serial (beside (directory 1 3 []) (symbolic_link a)) (Ask (Remove root b) nobody) (at 2) false).reply
+    ≡ Success (GoneDone (changed (before 4096 1 1) (root_shown 3 2)))
+remove_of_a_symbolic_link_to_a_directory = simp evaluate refl
+
+readdir_of_a_symbolic_link_to_a_directory :
+    (serial (beside (directory 1 3 []) (symbolic_link a)) (Ask (Readdir (h 3) 0 (replicate 8 0) 512) nobody) (at 2) false).reply
+    ≡ fails NotDirectory 1
+readdir_of_a_symbolic_link_to_a_directory = simp evaluate refl
+
+-- `a` is no file, so that this one isn't made there
+creation_over_a_symbolic_link :
+    (serial (with_file (symbolic_link x)) (Ask (Create root a (Unchecked no_attributes)) nobody) (at 2) false).reply
+    ≡ fails Exists 2
+creation_over_a_symbolic_link = simp evaluate refl
+
+-- ---- MNT: `/vol0/b` and `/vol0/b/d` (appendix I, section 5.2.1)
+
+mnt_of_a_symbolic_link_to_a_directory :
+    (serial (beside (directory 1 3 []) (symbolic_link a))
+    (Ask (MountBelow root (0x2f ∷ 0x76 ∷ 0x6f ∷ 0x6c ∷ 0x30 ∷ 0x2f ∷ 0x62 ∷ [])) nobody) (at 2) false).reply
+    ≡ fails NotDirectory 0
+mnt_of_a_symbolic_link_to_a_directory = simp evaluate refl
+
+mnt_below_a_symbolic_link_to_a_directory :
+    (serial (beside (directory 1 3 []) (symbolic_link a))
+    (Ask (MountBelow root (0x2f ∷ 0x76 ∷ 0x6f ∷ 0x6c ∷ 0x30 ∷ 0x2f ∷ 0x62 ∷ 0x2f ∷ 0x64 ∷ [])) nobody) (at 2) false).reply
+    ≡ fails NotDirectory 0
+mnt_below_a_symbolic_link_to_a_directory = simp evaluate refl
