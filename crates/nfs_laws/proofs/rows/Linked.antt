@@ -1,9 +1,7 @@
 -- What the rows of symbolic links, of special files and of several names are about: small states of volume 0, and what is shown of them.
 use Rattle.std.specs.Prelude.{ℕ, List, [], ◌∷◌, Some, None}
-use Rattle.std.specs.Ordering.{nat_cmp}
-use Rattle.std.specs.FinSet.{FinSet}
-use Rattle.nfs_model.specs.Types.{Moment, SpecialType, SymbolicLink, Fifo, BlockDevice, CharacterDevice, SpecialKind, Shown, SetAttributes, ClientTime}
-use Rattle.nfs_model.specs.Server.{Attributes, Node, File, Special, Server, opening_volume}
+use Rattle.nfs_model.specs.Types.{Moment, SpecialType, SymbolicLink, BlockDevice, CharacterDevice, SpecialKind, Shown, SetAttributes, ClientTime}
+use Rattle.nfs_model.specs.Server.{Node, File, Special, Server, opening_volume}
 use Rattle.nfs_model.specs.Serial.Create.{no_attributes}
 use Rattle.nfs_laws.proofs.rows.Cases.{verifier, one_range, at, a, b, d, x, entry, block_0, stored, directory, root_with, volume_with, holding, file_shown}
 

@@ -1,16 +1,16 @@
 -- LINK, and REMOVE, RENAME and CREATE of what has several names (RFC 1813 sections 3.3.8, 3.3.12, 3.3.14, 3.3.15 and 2.6; POSIX, link,
 -- unlink and rename).
-use Rattle.std.proofs.Common.{◌≡◌, ℕ, true, false, List, [], ◌∷◌, replicate, Some, None, refl}
-use Rattle.nfs_model.specs.Types.{Shown, SymbolicLink, Fifo, Socket, Unchecked, Exclusive, Getattr, Setattr, Lookup, Readlink, Read, Create}
+use Rattle.std.proofs.Common.{◌≡◌, true, false, [], ◌∷◌, replicate, Some, None, refl}
+use Rattle.nfs_model.specs.Types.{SymbolicLink, Fifo, Socket, Unchecked, Exclusive, Getattr, Setattr, Lookup, Readlink, Read, Create}
 use Rattle.nfs_model.specs.Types.{Remove, Rename, Link, Readdir, Readdirplus, Fsstat, Ask, Success, GetattrDone, LookupDone, ReadlinkDone, ReadDone}
 use Rattle.nfs_model.specs.Types.{MadeDone, GoneDone, RenameDone, LinkDone, ReaddirDone, ReaddirplusDone, FsstatDone, NoEntry, Access, Exists, NotSynchronous, SetattrDone}
-use Rattle.nfs_model.specs.Types.{CrossVolume, NotDirectory, IsDirectory, Invalid, TooManyLinks, NameTooLong, Stale, BadHandle}
-use Rattle.nfs_model.specs.Server.{Node, File, Server, handle_bytes}
+use Rattle.nfs_model.specs.Types.{CrossVolume, NotDirectory, Invalid, TooManyLinks, NameTooLong, Stale, BadHandle}
+use Rattle.nfs_model.specs.Server.{File, Server, handle_bytes}
 use Rattle.nfs_model.specs.Serial.Create.{no_attributes}
 use Rattle.nfs_model.specs.Serial.Starve.{may_starve_later}
 use Rattle.nfs_model.specs.Serial.Step.{stay, serial}
 use Rattle.nfs_laws.specs.lemmas.Evaluate.{evaluate}
-use Rattle.nfs_laws.proofs.rows.Cases.{start, at, nobody, h, root, fails, a, b, d, e, f, x, entry, write_at, sized, no_blocks, stored, file, exclusive_file, directory}
+use Rattle.nfs_laws.proofs.rows.Cases.{start, at, nobody, h, root, fails, a, b, d, x, entry, write_at, sized, no_blocks, stored, file, exclusive_file, directory}
 use Rattle.nfs_laws.proofs.rows.Cases.{with_file, with_tree, root_shown, directory_shown, file_shown, before, changed}
 use Rattle.nfs_laws.proofs.rows.Linked.{disk, special_node, symbolic_link, special_file, named_file, named_touched_file, two_names, across, beside}
 use Rattle.nfs_laws.proofs.rows.Linked.{three_names, with_inodes, special_shown, symbolic_link_shown, named_shown}

@@ -1,8 +1,8 @@
 -- SYMLINK, MKNOD and LINK that come again (RFC 1813 section 4.5; places and which texts are our profile): the reply is the first, and
 -- nothing is done twice.
-use Rattle.std.proofs.Common.{◌≡◌, ℕ, ◌+◌, ◌*◌, true, false, List, [], ◌∷◌, replicate, Option, Some, None, refl}
-use Rattle.nfs_model.specs.Types.{Caller, SymbolicLink, Fifo, Socket, BlockDevice, CharacterDevice, Regular, DirectoryKind, SpecialKind}
-use Rattle.nfs_model.specs.Types.{Readlink, Symlink, Mknod, Remove, Link, Ask, Success, MadeDone, LinkDone, Exists, BadType, CrossVolume}
+use Rattle.std.proofs.Common.{◌≡◌, ◌+◌, ◌*◌, true, false, List, [], ◌∷◌, replicate, Option, Some, None, refl}
+use Rattle.nfs_model.specs.Types.{Caller, Fifo, Socket, BlockDevice, CharacterDevice, Regular, DirectoryKind, SpecialKind}
+use Rattle.nfs_model.specs.Types.{Readlink, Symlink, Mknod, Link, Ask, Success, MadeDone, LinkDone, Exists, CrossVolume}
 use Rattle.nfs_model.specs.Types.{Stale, Shown, Wcc}
 use Rattle.nfs_model.specs.Memo.{MakesDirectory, MakesSymbolicLink, MakesNode, Links, ToldMade, ToldLinked, Memo}
 use Rattle.nfs_model.specs.Server.{Node, Server, handle_bytes, opening_volume}
@@ -12,7 +12,7 @@ use Rattle.nfs_model.specs.Serial.Same.{same_change, same_kind}
 use Rattle.nfs_model.specs.Serial.Step.{stay, serial}
 use Rattle.nfs_laws.specs.Repeated.{memos_of}
 use Rattle.nfs_laws.specs.lemmas.Evaluate.{evaluate}
-use Rattle.nfs_laws.proofs.rows.Cases.{verifier, one_range, at, h, root, fails, a, b, d, x, entry, root_with, volume_with, root_shown, before, changed}
+use Rattle.nfs_laws.proofs.rows.Cases.{verifier, one_range, at, h, root, fails, a, b, d, entry, root_with, volume_with, root_shown, before, changed}
 use Rattle.nfs_laws.proofs.rows.Linked.{disk, terminal, d_f, named_file, named_shown, special_shown, symbolic_link, symbolic_link_shown}
 
 -- ---- a caller, and states with four places

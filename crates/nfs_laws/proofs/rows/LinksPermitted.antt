@@ -1,7 +1,7 @@
 -- READLINK, SYMLINK, MKNOD and LINK, and what has several names, by the owner, the groups and the mode (RFC 1813 sections 2.5, 3.3.2,
 -- 3.3.4, 3.3.5, 3.3.10 to 3.3.12, 3.3.14 and 3.3.15; POSIX, bind, link, mknod, symlink, unlink and S_ISVTX).
-use Rattle.std.proofs.Common.{◌≡◌, ℕ, true, false, List, [], ◌∷◌, replicate, Some, None, refl}
-use Rattle.nfs_model.specs.Types.{Shown, SpecialType, SymbolicLink, Fifo, Socket, Regular, SpecialKind, ServerTime, Setattr, Lookup, CheckAccess}
+use Rattle.std.proofs.Common.{◌≡◌, ℕ, false, List, [], ◌∷◌, replicate, Some, None, refl}
+use Rattle.nfs_model.specs.Types.{Shown, SpecialType, SymbolicLink, Fifo, Socket, Regular, SpecialKind, ServerTime, Setattr, CheckAccess}
 use Rattle.nfs_model.specs.Types.{Readlink, Symlink, Mknod, Remove, Rename, Link, Ask, Success, SetattrDone, AccessDone, ReadlinkDone, MadeDone}
 use Rattle.nfs_model.specs.Types.{GoneDone, RenameDone, LinkDone, NotPermitted, Access, Exists, NotDirectory, Invalid, ReadOnly, NameTooLong}
 use Rattle.nfs_model.specs.Types.{Stale, BadHandle, BadType}
@@ -9,7 +9,7 @@ use Rattle.nfs_model.specs.Server.{Node, File, Special, Server}
 use Rattle.nfs_model.specs.Serial.Create.{no_attributes}
 use Rattle.nfs_model.specs.Serial.Step.{stay, serial}
 use Rattle.nfs_laws.specs.lemmas.Evaluate.{evaluate}
-use Rattle.nfs_laws.proofs.rows.Cases.{at, h, root, fails, a, b, d, e, f, entry, block_0, root_with, holding, with_file, root_shown, file_shown}
+use Rattle.nfs_laws.proofs.rows.Cases.{at, h, root, fails, a, b, d, e, f, entry, block_0, root_with, holding, file_shown}
 use Rattle.nfs_laws.proofs.rows.Cases.{before, changed}
 use Rattle.nfs_laws.proofs.rows.Checked.{octal, owner, member, further, other, uid_0, free, reader, owned, owned_file, owned_directory, tree_of}
 use Rattle.nfs_laws.proofs.rows.Checked.{pair_of, shown_of, directory_changed, directory_kept}

@@ -1,17 +1,17 @@
 -- MKNOD, and what other procedures say of FIFOs, sockets and devices (RFC 1813 sections 3.3.2 to 3.3.4, 3.3.6 to 3.3.9, 3.3.11 to 3.3.14,
 -- 3.3.16 to 3.3.18, 3.3.21 and 2.6; POSIX, mknod and mkfifo).
-use Rattle.std.proofs.Common.{◌≡◌, ℕ, true, false, List, [], ◌∷◌, replicate, Some, None, refl}
+use Rattle.std.proofs.Common.{◌≡◌, true, false, [], ◌∷◌, replicate, Some, None, refl}
 use Rattle.nfs_model.specs.Types.{SymbolicLink, Fifo, Socket, BlockDevice, CharacterDevice, Regular, DirectoryKind, SpecialKind}
-use Rattle.nfs_model.specs.Types.{ServerTime, ClientTime, Unchecked, Guarded, Exclusive, Getattr, Setattr, Lookup, CheckAccess, Read, Write}
+use Rattle.nfs_model.specs.Types.{ServerTime, ClientTime, Unchecked, Guarded, Exclusive, Getattr, Setattr, Lookup, CheckAccess, Read}
 use Rattle.nfs_model.specs.Types.{Create, Mkdir, Mknod, Remove, Rmdir, Rename, Link, Readdir, Readdirplus, Fsstat, Commit, Ask, Success, GetattrDone}
 use Rattle.nfs_model.specs.Types.{SetattrDone, AccessDone, MadeDone, GoneDone, RenameDone, LinkDone, ReaddirplusDone, FsstatDone, LookupDone}
 use Rattle.nfs_model.specs.Types.{NoEntry, Access, Exists, NotDirectory, Invalid, NoSpace, NameTooLong, Stale, BadHandle, NotSynchronous, BadType}
 use Rattle.nfs_model.specs.Server.{handle_bytes}
 use Rattle.nfs_model.specs.Serial.Create.{no_attributes}
-use Rattle.nfs_model.specs.Serial.Step.{stay, serial}
+use Rattle.nfs_model.specs.Serial.Step.{serial}
 use Rattle.nfs_laws.specs.lemmas.Evaluate.{evaluate}
-use Rattle.nfs_laws.proofs.rows.Cases.{start, at, nobody, h, root, fails, a, b, f, x, entry, write_at, no_blocks, file, with_file, with_tree, root_shown}
-use Rattle.nfs_laws.proofs.rows.Cases.{directory_shown, file_shown, before, changed}
+use Rattle.nfs_laws.proofs.rows.Cases.{start, at, nobody, h, root, fails, a, b, x, entry, write_at, no_blocks, file, with_file, with_tree, root_shown}
+use Rattle.nfs_laws.proofs.rows.Cases.{directory_shown, before, changed}
 use Rattle.nfs_laws.proofs.rows.Linked.{disk, terminal, with_bad_time, special_node, special_file, without_inodes, with_inodes, special_shown}
 
 -- ---- MKNOD: checks in order

@@ -1,6 +1,6 @@
 -- READLINK and SYMLINK (RFC 1813 sections 3.3.5 and 3.3.10; POSIX, readlink and symlink).
-use Rattle.std.proofs.Common.{◌≡◌, ℕ, false, List, [], ◌∷◌, replicate, Some, None, refl}
-use Rattle.nfs_model.specs.Types.{SymbolicLink, Fifo, Socket, SpecialKind, ServerTime, ClientTime, Getattr, Setattr, Lookup, Readlink, Symlink}
+use Rattle.std.proofs.Common.{◌≡◌, false, [], ◌∷◌, replicate, Some, None, refl}
+use Rattle.nfs_model.specs.Types.{Fifo, Socket, ServerTime, ClientTime, Getattr, Setattr, Lookup, Readlink, Symlink}
 use Rattle.nfs_model.specs.Types.{Create, Remove, Rmdir, Rename, Readdir, MountBelow, Unchecked, Ask, Success, GetattrDone, SetattrDone, LookupDone, ReadlinkDone, MadeDone, GoneDone}
 use Rattle.nfs_model.specs.Types.{NoEntry, Access, Exists, NotDirectory, Invalid, NoSpace, NameTooLong, Stale, BadHandle}
 use Rattle.nfs_model.specs.Serial.Create.{no_attributes}
