@@ -271,6 +271,18 @@ file_has_its_name_in_a_directory :
     ≡ Success (LookupDone (h 2) (named_shown 2 1 2) (directory_shown 3 2 1))
 file_has_its_name_in_a_directory = simp evaluate refl
 
+file_of_three_names_has_two :
+    (serial (serial (serial (two_names (named_file 2)) (Ask (Link (h 2) root x) nobody) (at 2) false).server (Ask (Remove root a) nobody)
+    (at 3) false).server (Ask (Getattr (h 2)) nobody) (at 4) false).reply
+    ≡ Success (GetattrDone (named_shown 2 2 3))
+file_of_three_names_has_two = simp evaluate refl
+
+fifo_of_three_names_has_two :
+    (serial (serial (serial (two_names (special_node Fifo 420 [] 2)) (Ask (Link (h 2) root x) nobody) (at 2) false).server
+    (Ask (Remove root a) nobody) (at 3) false).server (Ask (Getattr (h 2)) nobody) (at 4) false).reply
+    ≡ Success (GetattrDone (record (special_shown 2 Fifo 420 3) { links = 2 }))
+fifo_of_three_names_has_two = simp evaluate refl
+
 -- ---- and of the last
 
 without_its_last_name_a_file_is_stale :
@@ -356,6 +368,13 @@ replaced_device_has_its_other_name :
     (Ask (Getattr (h 3)) nobody) (at 3) false).reply
     ≡ Success (GetattrDone (special_shown 3 disk 420 2))
 replaced_device_has_its_other_name = simp evaluate refl
+
+-- of `b`, `x` and `d`, `b` goes
+replaced_file_of_three_names_has_two :
+    (serial (serial (serial (three_names (file [] no_blocks) (named_file 2)) (Ask (Link (h 3) root d) nobody) (at 2) false).server
+    (Ask (Rename root a root b) nobody) (at 3) false).server (Ask (Getattr (h 3)) nobody) (at 4) false).reply
+    ≡ Success (GetattrDone (named_shown 3 2 3))
+replaced_file_of_three_names_has_two = simp evaluate refl
 
 -- ---- RENAME over another kind
 

@@ -1,17 +1,17 @@
--- READLINK, SYMLINK, MKNOD and LINK, and what has several names, by the owner, the groups and the mode (RFC 1813 sections 2.5, 3.3.2,
--- 3.3.4, 3.3.5, 3.3.10 to 3.3.12, 3.3.14 and 3.3.15; POSIX, bind, link, mknod, symlink, unlink and S_ISVTX).
+-- READLINK, SYMLINK, MKNOD and LINK, and what has several names, by the owner, the groups and the mode (RFC 1813 sections 2.5, 3.3.2
+-- to 3.3.8, 3.3.10 to 3.3.12, 3.3.14 to 3.3.16 and 3.3.21; POSIX, bind, link, mknod, symlink, unlink and S_ISVTX).
 use Rattle.std.proofs.Common.{◌≡◌, ℕ, false, List, [], ◌∷◌, replicate, Some, None, refl}
-use Rattle.nfs_model.specs.Types.{Shown, SpecialType, SymbolicLink, Fifo, Socket, Regular, SpecialKind, ServerTime, Setattr, CheckAccess}
-use Rattle.nfs_model.specs.Types.{Readlink, Symlink, Mknod, Remove, Rename, Link, Ask, Success, SetattrDone, AccessDone, ReadlinkDone, MadeDone}
-use Rattle.nfs_model.specs.Types.{GoneDone, RenameDone, LinkDone, NotPermitted, Access, Exists, NotDirectory, Invalid, ReadOnly, NameTooLong}
-use Rattle.nfs_model.specs.Types.{Stale, BadHandle, BadType}
+use Rattle.nfs_model.specs.Types.{Shown, SpecialType, SymbolicLink, Fifo, Socket, Regular, SpecialKind, ServerTime, Unchecked, Setattr, Lookup, CheckAccess}
+use Rattle.nfs_model.specs.Types.{Readlink, Read, Create, Symlink, Mknod, Remove, Rename, Link, Readdir, Commit, Ask, Success, SetattrDone}
+use Rattle.nfs_model.specs.Types.{AccessDone, ReadlinkDone, MadeDone, GoneDone, RenameDone, LinkDone, NotPermitted, Access, Exists, NotDirectory}
+use Rattle.nfs_model.specs.Types.{Invalid, ReadOnly, NameTooLong, Stale, BadHandle, BadType}
 use Rattle.nfs_model.specs.Server.{Node, File, Special, Server}
 use Rattle.nfs_model.specs.Serial.Create.{no_attributes}
 use Rattle.nfs_model.specs.Serial.Step.{stay, serial}
 use Rattle.nfs_laws.specs.lemmas.Evaluate.{evaluate}
-use Rattle.nfs_laws.proofs.rows.Cases.{at, h, root, fails, a, b, d, e, f, entry, block_0, root_with, holding, file_shown}
+use Rattle.nfs_laws.proofs.rows.Cases.{at, h, root, fails, a, b, d, e, f, write_at, entry, block_0, root_with, holding, file_shown}
 use Rattle.nfs_laws.proofs.rows.Cases.{before, changed}
-use Rattle.nfs_laws.proofs.rows.Checked.{octal, owner, member, further, other, uid_0, free, reader, owned, owned_file, owned_directory, tree_of}
+use Rattle.nfs_laws.proofs.rows.Checked.{octal, user, owner, member, further, other, uid_0, free, reader, owned, owned_file, owned_directory, tree_of}
 use Rattle.nfs_laws.proofs.rows.Checked.{pair_of, shown_of, directory_changed, directory_kept}
 use Rattle.nfs_laws.proofs.rows.Linked.{disk, terminal, with_bad_time, special_shown, symbolic_link_shown}
 
@@ -229,6 +229,31 @@ others_without_w_give_a_device_no_times_of_the_server :
     ≡ fails Access 2
 others_without_w_give_a_device_no_times_of_the_server = simp evaluate refl
 
+-- 04000 and 02000, of one who isn't uid 0
+new_group_of_a_fifo_ends_both_bits :
+    (serial (special_in (octal 0 7 0 0) (owned_special Fifo (octal 6 7 5 5) 7 []))
+    (Ask (Setattr (h 3) (record no_attributes { gid = Some 71 }) None) (user 7 70 (71 ∷ []))) (at 2) false).reply
+    ≡ Success (SetattrDone (changed (before 0 1 1) (shown_of (special_shown 3 Fifo 0 2) (octal 0 7 5 5) 7 71)))
+new_group_of_a_fifo_ends_both_bits = simp evaluate refl
+
+owner_of_another_group_gives_a_fifo_no_02000 :
+    (serial (special_in (octal 0 7 0 0) (owned_special Fifo (octal 0 6 4 4) 7 []))
+    (Ask (Setattr (h 3) (record no_attributes { mode = Some (octal 2 6 4 4) }) None) (user 7 71 [])) (at 2) false).reply
+    ≡ Success (SetattrDone (changed (before 0 1 1) (shown_of (special_shown 3 Fifo 0 2) (octal 0 6 4 4) 7 70)))
+owner_of_another_group_gives_a_fifo_no_02000 = simp evaluate refl
+
+-- READ 1, MODIFY 4 and EXTEND 8
+uid_0_does_not_execute_a_device_that_nobody_may :
+    (serial (special_in (octal 0 7 0 0) (owned_special disk (octal 0 0 0 0) 7 [])) (Ask (CheckAccess (h 3) 63) uid_0) (at 2) false).reply
+    ≡ Success (AccessDone (shown_of (special_shown 3 disk 0 1) (octal 0 0 0 0) 7 70) 13)
+uid_0_does_not_execute_a_device_that_nobody_may = simp evaluate refl
+
+-- and EXECUTE 32
+uid_0_executes_a_device_that_somebody_may :
+    (serial (special_in (octal 0 7 0 0) (owned_special disk (octal 0 0 1 0) 7 [])) (Ask (CheckAccess (h 3) 63) uid_0) (at 2) false).reply
+    ≡ Success (AccessDone (shown_of (special_shown 3 disk 0 1) (octal 0 0 1 0) 7 70) 45)
+uid_0_executes_a_device_that_somebody_may = simp evaluate refl
+
 -- READ 1 alone
 access_of_a_device_by_r :
     (serial (special_in (octal 0 7 0 0) (owned_special disk (octal 0 7 7 4) 7 [])) (Ask (CheckAccess (h 3) 63) other) (at 2) false).reply
@@ -251,6 +276,51 @@ access_of_a_fifo_by_a_reader :
     (serial (special_in (octal 0 7 0 0) (owned_special Fifo (octal 0 0 0 2) 7 [])) (Ask (CheckAccess (h 3) 63) (reader (free other))) (at 2) false).reply
     ≡ Success (AccessDone (shown_of (special_shown 3 Fifo 0 1) (octal 0 0 0 2) 7 70) 12)
 access_of_a_fifo_by_a_reader = simp evaluate refl
+
+-- ---- no right is asked of what isn't there for a call
+
+stranger_reads_no_bytes_of_a_fifo :
+    (serial (special_in (octal 0 0 0 0) (owned_special Fifo (octal 0 0 0 0) 7 [])) (Ask (Read (h 3) 0 9) other) (at 2) false).reply
+    ≡ fails Invalid 1
+stranger_reads_no_bytes_of_a_fifo = simp evaluate refl
+
+stranger_writes_no_bytes_to_a_device :
+    (serial (special_in (octal 0 0 0 0) (owned_special disk (octal 0 0 0 0) 7 [])) (Ask (write_at 3 0 (6 ∷ [])) other) (at 2) false).reply
+    ≡ fails Invalid 2
+stranger_writes_no_bytes_to_a_device = simp evaluate refl
+
+stranger_commits_no_device :
+    (serial (special_in (octal 0 0 0 0) (owned_special disk (octal 0 0 0 0) 7 [])) (Ask (Commit (h 3)) other) (at 2) false).reply
+    ≡ fails Invalid 2
+stranger_commits_no_device = simp evaluate refl
+
+stranger_looks_up_nothing_in_a_symbolic_link :
+    (serial (special_in (octal 0 0 0 0) (owned_special SymbolicLink (octal 0 0 0 0) 7 b)) (Ask (Lookup (h 3) a) other) (at 2) false).reply
+    ≡ fails NotDirectory 1
+stranger_looks_up_nothing_in_a_symbolic_link = simp evaluate refl
+
+stranger_lists_no_socket :
+    (serial (special_in (octal 0 0 0 0) (owned_special Socket (octal 0 0 0 0) 7 [])) (Ask (Readdir (h 3) 0 (replicate 8 0) 512) other) (at 2) false).reply
+    ≡ fails NotDirectory 1
+stranger_lists_no_socket = simp evaluate refl
+
+stranger_makes_nothing_in_a_fifo :
+    (serial (special_in (octal 0 0 0 0) (owned_special Fifo (octal 0 0 0 0) 7 [])) (Ask (Symlink (h 3) a no_attributes b) other) (at 2) false).reply
+    ≡ fails NotDirectory 2
+stranger_makes_nothing_in_a_fifo = simp evaluate refl
+
+-- of a file that is there it would need w
+creation_over_a_fifo_needs_x_alone :
+    (serial (special_in (octal 0 7 7 1) (owned_special Fifo (octal 0 0 0 0) 7 []))
+    (Ask (Create (h 2) f (Unchecked (record no_attributes { size = Some 0 }))) other) (at 2) false).reply
+    ≡ fails Exists 2
+creation_over_a_fifo_needs_x_alone = simp evaluate refl
+
+-- of a directory that comes into another it would need w
+others_move_a_device_without_a_right_to_it :
+    (serial (pair_of (octal 0 0 0 3) (octal 0 0 0 3) (owned_special disk (octal 0 0 0 0) 8 []) 8) (Ask (Rename (h 2) a (h 3) e) other) (at 2) false).reply
+    ≡ Success (RenameDone (directory_changed 2 (octal 0 0 0 3) 2) (directory_changed 3 (octal 0 0 0 3) 2))
+others_move_a_device_without_a_right_to_it = simp evaluate refl
 
 -- ---- LINK: by w and x of the directory, whoever's the object is
 
