@@ -9,7 +9,7 @@ use Rattle.nfs_model.specs.Names.{find_name}
 use Rattle.nfs_model.specs.Locate.{Effect, Fails, unless, Found, child, is_node_of, Located, locate}
 use Rattle.nfs_model.specs.Serial.Rights.{Protection, protected, protection, Rights, is_sticky, may_search, may_list, may_read, may_write}
 use Rattle.nfs_model.specs.Serial.Rights.{without_set_ids}
-use Rattle.nfs_model.specs.Serial.Access.{bit_given, bits_of_file, writes_given, changes_given, bits_given}
+use Rattle.nfs_model.specs.Serial.Access.{bit_given, bits_of_file, special_writes, writes_given, changes_given, bits_given}
 use Rattle.nfs_model.specs.Serial.Absent.{absent_parts}
 use Rattle.nfs_model.specs.Serial.Setattr.{given, given_mode, time_after, mode_taken, set_taken}
 use Rattle.nfs_model.specs.Serial.Write.{clears_set_ids, file_taken}
@@ -330,13 +330,17 @@ free_given_names caller r free =
     same_both true false = refl
     same_both false b = refl
 
+free_given_special : (caller : model.Caller) (special : model.SpecialType) (r : Rights) → IsFree caller → special_writes caller special r ≡ r.writes
+free_given_special caller model.SymbolicLink r free = free_given caller r free
+free_given_special caller special r free = refl
+
 pub free_has : (caller : model.Caller) (asked : ℕ) (kind : model.Kind) (r : Rights) → IsFree caller → bits_given caller asked kind r ≡ bits_of asked kind r
 free_has caller asked model.Regular r free =
     ap (λ b. bits_of_file asked r b) (free_given caller r free)
 free_has caller asked model.DirectoryKind r free =
     ap (λ b. bit_given asked 1 r.reads + bit_given asked 2 r.executes + bit_given asked 4 b + bit_given asked 8 b + bit_given asked 16 b)
     (free_given_names caller r free)
-free_has caller asked (model.SpecialKind special) r free = refl
+free_has caller asked (model.SpecialKind special) r free = ap (λ b. bits_of_file asked r b) (free_given_special caller special r free)
 
 -- ---- calls that are refused
 

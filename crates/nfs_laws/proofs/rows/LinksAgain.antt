@@ -270,12 +270,12 @@ link_the_other_way = refl
 
 -- ---- what may be remembered
 
-text_of_4095_bytes_is_kept :
-    change_of (Symlink root a no_attributes (replicate 4095 97)) ≡ Some (MakesSymbolicLink root a no_attributes (replicate 4095 97))
-text_of_4095_bytes_is_kept = refl
+text_of_1024_bytes_is_kept :
+    change_of (Symlink root a no_attributes (replicate 1024 97)) ≡ Some (MakesSymbolicLink root a no_attributes (replicate 1024 97))
+text_of_1024_bytes_is_kept = refl
 
-text_of_4096_bytes_is_not : change_of (Symlink root a no_attributes (replicate 4096 97)) ≡ None
-text_of_4096_bytes_is_not = refl
+text_of_1025_bytes_is_not : change_of (Symlink root a no_attributes (replicate 1025 97)) ≡ None
+text_of_1025_bytes_is_not = refl
 
 symlink_of_a_name_of_256_bytes_is_not : change_of (Symlink root (replicate 256 97) no_attributes d) ≡ None
 symlink_of_a_name_of_256_bytes_is_not = refl

@@ -123,18 +123,18 @@ symlink_over_a_symbolic_link :
     ≡ fails Exists 2
 symlink_over_a_symbolic_link = simp evaluate refl
 
-symlink_to_4096_bytes :
-    (serial start (Ask (Symlink root a with_bad_time (replicate 4096 0)) nobody) (at 2) false).reply
+symlink_to_1025_bytes :
+    (serial start (Ask (Symlink root a with_bad_time (replicate 1025 0)) nobody) (at 2) false).reply
     ≡ fails NameTooLong 2
-symlink_to_4096_bytes = simp evaluate refl
+symlink_to_1025_bytes = simp evaluate refl
 
-text_of_4095_bytes : text_fault (replicate 4095 97) ≡ None
-text_of_4095_bytes = refl
+text_of_1024_bytes : text_fault (replicate 1024 97) ≡ None
+text_of_1024_bytes = refl
 
-symlink_to_4095_bytes :
-    (serial start (Ask (Symlink root a no_attributes (replicate 4095 97)) nobody) (at 2) false).reply
-    ≡ Success (MadeDone (h 2) (record (symbolic_link_shown 2 4095 2) { atime = at 2; mtime = at 2 }) (changed (before 4096 0 0) (root_shown 2 2)))
-symlink_to_4095_bytes = simp evaluate refl
+symlink_to_1024_bytes :
+    (serial start (Ask (Symlink root a no_attributes (replicate 1024 97)) nobody) (at 2) false).reply
+    ≡ Success (MadeDone (h 2) (record (symbolic_link_shown 2 1024 2) { atime = at 2; mtime = at 2 }) (changed (before 4096 0 0) (root_shown 2 2)))
+symlink_to_1024_bytes = simp evaluate refl
 
 symlink_to_no_bytes :
     (serial start (Ask (Symlink root a with_bad_time []) nobody) (at 2) false).reply
