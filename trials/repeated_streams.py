@@ -200,12 +200,19 @@ def goes_on_until_answered(bench, seed):
 # ---- all of it
 
 
-def tries(bench):
-    """All streams, with their names."""
-    lengths = {p: len(record(0, p, Place(bench.client, p).arguments())) for p in NAMES}
-    for size in range(sum(lengths.values())):
+def lengths_of(bench):
+    return {p: len(record(0, p, Place(bench.client, p).arguments())) for p in NAMES}
+
+
+def cut_streams(bench):
+    """All streams that are cut, with their names."""
+    for size in range(sum(lengths_of(bench).values())):
         yield f"the first {size} bytes", lambda s=size: cut_anywhere(bench, s)
-    for procedure, length in lengths.items():
+
+
+def changed_streams(bench):
+    """All calls with a byte changed, with their names."""
+    for procedure, length in lengths_of(bench).items():
         for at in range(length):
             for name, byte in CHANGES.items():
                 way = lambda p=procedure, a=at, b=byte: changed_anywhere(bench, p, a, b)
@@ -213,19 +220,18 @@ def tries(bench):
 
 
 def job(task):
-    """Every so manieth of these streams, and a client that goes on."""
+    """Every so manieth of the streams that are cut, and a client that goes on."""
     *own, seed, step = task
+    bench, start = Bench(own), own[-1]
+    goes_on = ("calls until they are answered", lambda: goes_on_until_answered(bench, seed + start))
+    return tried(bench, [*list(cut_streams(bench))[start::step], goes_on])
+
+
+def tried(bench, streams):
     passed, failures = 0, []
-    bench = Bench(own)
-    start = own[-1]
-    for place, (name, way) in enumerate([*tries(bench), ("calls until they are answered", None)]):
-        if way and place % step != start:
-            continue
+    for name, way in streams:
         try:
-            if way:
-                way()
-            else:
-                goes_on_until_answered(bench, seed + start)
+            way()
             passed += 1
         except (Differs, OSError) as difference:
             failures.append(f"{name}, of calls that come again: {type(difference).__name__}: {difference}")
@@ -244,6 +250,10 @@ def run(filer, pool, jobs, seed):
             for good, bad in pool.imap_unordered(job, [at(k) for k in range(jobs)]):
                 passed += good
                 failures += bad
+            # by one process alone: a handle with a byte changed may name a directory of another's
+            bench = Bench((server.address, f"127.0.2.{jobs + 1}", server.service, jobs))
+            good, bad = tried(bench, changed_streams(bench))
+            passed, failures = passed + good, failures + bad
             hold(server.process.poll() is None, "the server ended")
             passed += 1
     except (Differs, OSError) as difference:
