@@ -31,18 +31,18 @@ use Rattle.filer_state.specs.laws.lemmas.Steps.{sound-later}
 
 module _ (p : VolumeContents) where
   -- the node of a fileid
-  pub node-at : (q : ℕ) → get (volume_of p).nodes q ≡ option_map (node_of p.stripes p.logical.directories q) (get p.logical.inodes.inodes q)
-  node-at q = get-map_values nat_cmp_total nat_cmp-IsAntisymmetric (node_of p.stripes p.logical.directories) p.logical.inodes.inodes q
+  pub node-at : (q : ℕ) → get (volume_of p).nodes q ≡ option_map (node_of p.stripes p.logical.directories p.logical.texts q) (get p.logical.inodes.inodes q)
+  node-at q = get-map_values nat_cmp_total nat_cmp-IsAntisymmetric (node_of p.stripes p.logical.directories p.logical.texts) p.logical.inodes.inodes q
 
   directory-node : (q : ℕ) → is_directory_node (get (volume_of p).nodes q) ≡ is_directory (get p.logical.inodes.inodes q)
   directory-node q = ap is_directory_node (node-at q) ∙ by (get p.logical.inodes.inodes q)
     where
       kind : (a : Inode) (k : InodeKind)
-          → is_directory_node (Some (node_by p.stripes (get p.logical.directories q) q a.attributes k)) ≡ is_directory (Some (record a { kind = k }))
+          → is_directory_node (Some (node_by p.stripes (get p.logical.directories q) (get p.logical.texts q) q a.attributes a.names k)) ≡ is_directory (Some (record a { kind = k }))
       kind a (DirectoryKind parent subdirectories) = refl
       kind a other = refl
 
-      by : (o : Option Inode) → is_directory_node (option_map (node_of p.stripes p.logical.directories q) o) ≡ is_directory o
+      by : (o : Option Inode) → is_directory_node (option_map (node_of p.stripes p.logical.directories p.logical.texts q) o) ≡ is_directory o
       by None = refl
       by (Some inode) = kind inode inode.kind
 
@@ -74,7 +74,7 @@ module _ (p : VolumeContents) where
 
     -- attributes by the inode
     pub node-shown : (fileid : ℕ) (inode : Inode) → get p.logical.inodes.inodes fileid ≡ Some inode
-        → shown (volume_of p) fileid (node_of p.stripes p.logical.directories fileid inode) ≡ shown_inode p.number fileid inode (file_touch p.stripes fileid)
+        → shown (volume_of p) fileid (node_of p.stripes p.logical.directories p.logical.texts fileid inode) ≡ shown_inode p.number fileid inode (file_touch p.stripes fileid)
     node-shown fileid inode there = shown-with (volume_of p) fileid (file_bytes p.stripes fileid) (file_filled p.stripes fileid)
         (file_touch p.stripes fileid) (directory_or_empty (get p.logical.directories fileid)) inode.attributes
         (λ size. length-map-range_with_len (file_byte p.stripes fileid) 0 size) inode.kind (well.filled fileid inode there)
@@ -108,7 +108,7 @@ getattr-right v fileid handle node set =
   where
     told : (p : VolumeContents) (hands : List Hand) (made : ℕ) → IsSound p hands made → (o : Option Inode) → get p.logical.inodes.inodes fileid ≡ o
         → getattr_answer p.number fileid o (file_touch p.stripes fileid)
-        ≡ answer_of 0 (on_node (option_map (node_of p.stripes p.logical.directories fileid) o)
+        ≡ answer_of 0 (on_node (option_map (node_of p.stripes p.logical.directories p.logical.texts fileid) o)
         (λ node. Tells (GetattrDone (shown (volume_of p) fileid node))))
     told p hands made sound None e = refl
     told p hands made sound (Some inode) e = ap GetattrDone (sym (node-shown p sound.well_formed fileid inode e))

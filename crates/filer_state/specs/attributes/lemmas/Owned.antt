@@ -96,7 +96,7 @@ module _ (p : VolumeContents) (f : ℕ) (old inode : Inode) (there : get p.logic
       (size-alike f (ownership_of inode.attributes)) (owners-after p f old inode there same) hands made s
 
   pub volume-owned : volume_of (owned_in f inode p)
-      ≡ with_node (volume_of p) f (with_owner inode.attributes (node_of p.stripes p.logical.directories f old))
+      ≡ with_node (volume_of p) f (with_owner inode.attributes (node_of p.stripes p.logical.directories p.logical.texts f old))
   volume-owned = λ j. record (volume_of p) {
     next = next-set p.logical.inodes f inode j;
     nodes = nodes-changed p.stripes p.logical.directories f (cards_owned f (ownership_of inode.attributes)) with_owner

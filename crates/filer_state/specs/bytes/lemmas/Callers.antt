@@ -99,7 +99,7 @@ seen-owner p f = ap owner_seen (node-at p f) ∙ by (get p.logical.inodes.inodes
     kind a (RegularFile size filled verifier) = refl
     kind a other = refl
 
-    by : (o : Option Inode) → owner_seen (option_map (node_of p.stripes p.logical.directories f) o) ≡ owner_at o
+    by : (o : Option Inode) → owner_seen (option_map (node_of p.stripes p.logical.directories p.logical.texts f) o) ≡ owner_at o
     by None = refl
     by (Some inode) = kind inode.attributes inode.kind
 

@@ -39,10 +39,10 @@ module _ (p : VolumeContents) (f : ℕ) (inode : Inode) (old_size blocks : ℕ) 
   after = refiled f next stripes p
 
   abbrev now : ℕ → Inode → Node
-  now = node_of after.stripes after.logical.directories
+  now = node_of after.stripes after.logical.directories after.logical.texts
 
   abbrev was : ℕ → Inode → Node
-  was = node_of p.stripes p.logical.directories
+  was = node_of p.stripes p.logical.directories p.logical.texts
 
   other-node : (q : ℕ) → (q == f) ≡ false → (x : Inode) → now q x ≡ was q x
   other-node q ne x = λ j. node_with

@@ -46,15 +46,15 @@ stored_in (Directory d) = d.attributes
 record Next (q : VolumeContents) (f : ℕ) (node : Node) : Type 0 where
   pub inode : Inode
   pub there : get q.logical.inodes.inodes f ≡ Some inode
-  pub is : node_of q.stripes q.logical.directories f inode ≡ node
+  pub is : node_of q.stripes q.logical.directories q.logical.texts f inode ≡ node
 
 next-of : (q : VolumeContents) (f : ℕ) (node : Node) → get (volume_of q).nodes f ≡ Some node → Next q f node
 next-of q f node seen = by (get q.logical.inodes.inodes f) refl (sym (node-at q f) ∙ seen)
   where
-    by : (o : Option Inode) → get q.logical.inodes.inodes f ≡ o → option_map (node_of q.stripes q.logical.directories f) o ≡ Some node → Next q f node
+    by : (o : Option Inode) → get q.logical.inodes.inodes f ≡ o → option_map (node_of q.stripes q.logical.directories q.logical.texts f) o ≡ Some node → Next q f node
     by None there e = absurd cc
     by (Some inode) there e =
-        let is : node_of q.stripes q.logical.directories f inode ≡ node = cc in record { inode = inode; there = there; is = is }
+        let is : node_of q.stripes q.logical.directories q.logical.texts f inode ≡ node = cc in record { inode = inode; there = there; is = is }
 
 module _ (p q : VolumeContents) (f : ℕ) (handle : List ℕ) (w : Writing) (node : Affinity) (bytes : SomeBytes p f handle w node)
     (clears : clears_owned w.caller (owner_at (get p.logical.inodes.inodes f)) ≡ true) (hands : List Hand) (made : ℕ) (sound : IsSound q hands made)

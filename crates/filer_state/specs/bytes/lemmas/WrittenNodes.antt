@@ -101,10 +101,10 @@ module _ (p : VolumeContents) (i f offset : ℕ) (written : List ℕ) (moment : 
   -- ---- nodes
 
   abbrev seen_now : ℕ → Inode → Node
-  seen_now = node_of after.stripes p.logical.directories
+  seen_now = node_of after.stripes p.logical.directories p.logical.texts
 
   abbrev seen : ℕ → Inode → Node
-  seen = node_of p.stripes p.logical.directories
+  seen = node_of p.stripes p.logical.directories p.logical.texts
 
   other-node : (q : ℕ) → (q == f) ≡ false → (inode : Inode) → seen_now q inode ≡ seen q inode
   other-node q ne inode = λ j. node_with (λ size. map (λ k. bytes-kept q ne k j) (range_with_len 0 size)) (filled-kept q j) (touch-kept q ne j)

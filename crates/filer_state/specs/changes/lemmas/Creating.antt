@@ -41,7 +41,7 @@ all-pass x y z false false false e = (refl, refl)
 module _ (p : VolumeContents) where
   full-is : is_full (volume_of p) ≡ is_full_set (logical_lens.of p)
   full-is = ap (nat_le p.logical.most_inodes)
-      (len-map_values (node_of p.stripes p.logical.directories) nat_cmp_total nat_cmp-IsAntisymmetric p.logical.inodes.inodes)
+      (len-map_values (node_of p.stripes p.logical.directories p.logical.texts) nat_cmp_total nat_cmp-IsAntisymmetric p.logical.inodes.inodes)
 
   create-fault : (set : SetAttributes) → create_fault (volume_of p) set ≡ create_check set (logical_lens.of p)
   create-fault set = ap (λ (full : Bool). if has_bad_time set then Some Invalid else if is_past set.size p.logical.largest then Some TooBig

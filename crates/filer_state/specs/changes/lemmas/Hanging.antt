@@ -196,17 +196,17 @@ module _ (q : VolumeContents) (from to : HeldNaming) (child : HeldNode) (from_pa
         changed-there (in_directory (λ d. with_name d to.name c to.moment)) to.fileid (nodes_of taken)
         (Directory (seen_directory n.inode n.entries to_parent)) (directory-seen q_taken to.fileid n.inode to_parent n-there n-says)
 
-    node-there : get (insert (nodes_of taken) to.fileid entered) c ≡ Some (node_of q.stripes taken.own.directories c child.inode)
+    node-there : get (insert (nodes_of taken) to.fileid entered) c ≡ Some (node_of q.stripes taken.own.directories taken.own.texts c child.inode)
     node-there =
         get-insert_at (nodes_of taken) to.fileid entered c
         ∙ ap (λ (b : Bool). if b then Some entered else get (nodes_of taken) c) turned-here
-        ∙ node-at q_taken c ∙ ap (option_map (node_of q.stripes taken.own.directories c)) n-node
+        ∙ node-at q_taken c ∙ ap (option_map (node_of q.stripes taken.own.directories taken.own.texts c)) n-node
 
     nodes-renamed : (volume_of q_hung).nodes ≡ with_moved to_seen c (with_entry to_seen c (without_entry from_seen (volume_of q).nodes))
     nodes-renamed =
         nodes-hung taken n n-there n-node apart-here turned-here to_parent n-says
         ∙ sym (changed-there (moved_node to.fileid to.moment) c (insert (nodes_of taken) to.fileid entered)
-        (node_of q.stripes taken.own.directories c child.inode) node-there)
+        (node_of q.stripes taken.own.directories taken.own.texts c child.inode) node-there)
         ∙ sym (ap (λ (ns : Nodes). with_moved to_seen c ns) entry-come)
         ∙ sym (ap (λ (ns : Nodes). with_moved to_seen c (with_entry to_seen c ns)) entry-left)
 

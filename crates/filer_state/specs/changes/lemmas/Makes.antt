@@ -149,11 +149,11 @@ no-name p fileid name absent = ap (λ (o : Option Node). has_name o name) (node-
     entry (Some e) h = absurd cc
 
     kinds : (inode : Inode) (kind : InodeKind)
-        → has_name (Some (node_by p.stripes (get p.logical.directories fileid) fileid inode.attributes kind)) name ≡ false
+        → has_name (Some (node_by p.stripes (get p.logical.directories fileid) (get p.logical.texts fileid) fileid inode.attributes inode.names kind)) name ≡ false
     kinds inode (DirectoryKind parent subdirectories) = entry (find_name name (entries_of p.logical fileid).list) absent
     kinds inode kind = refl
 
-    by : (o : Option Inode) → has_name (option_map (node_of p.stripes p.logical.directories fileid) o) name ≡ false
+    by : (o : Option Inode) → has_name (option_map (node_of p.stripes p.logical.directories p.logical.texts fileid) o) name ≡ false
     by None = refl
     by (Some inode) = kinds inode inode.kind
 

@@ -143,7 +143,7 @@ module _ (p : VolumeContents) (fileid : ℕ) (name : List ℕ) (moment : Moment)
 
       kinds : (inode : Inode) → get p.logical.inodes.inodes fileid ≡ Some inode → (kind : InodeKind) → inode.kind ≡ kind
           → Right (on_kind kind (naming_held inode) run)
-          (on_directory (Some (node_by p.stripes (get p.logical.directories fileid) fileid inode.attributes kind)) asked)
+          (on_directory (Some (node_by p.stripes (get p.logical.directories fileid) (get p.logical.texts fileid) fileid inode.attributes inode.names kind)) asked)
       kinds inode there (DirectoryKind parent subs) is =
           checked (name_fault name) (run (naming_held inode)) (model (naming_seen inode parent))
           (goes inode parent (record { there = there; says = ap parent_in is; entered = entered-here well inode parent there (ap parent_in is) }))
@@ -151,7 +151,7 @@ module _ (p : VolumeContents) (fileid : ℕ) (name : List ℕ) (moment : Moment)
 
       by : (o : Option Inode) → get p.logical.inodes.inodes fileid ≡ o
           → Right (on_inode o (logical_lens.of p) (λ inode. on_kind inode.kind (naming_held inode) run))
-          (on_directory (option_map (node_of p.stripes p.logical.directories fileid) o) asked)
+          (on_directory (option_map (node_of p.stripes p.logical.directories p.logical.texts fileid) o) asked)
       by None e = failure _
       by (Some inode) e = kinds inode e inode.kind refl
 
@@ -196,7 +196,7 @@ pub record IsChildHere (p : VolumeContents) (fileid : ℕ) (name : List ℕ) (ch
 
 -- the node as the serial server sees it
 abbrev pub found_seen : VolumeContents → HeldNode → Found
-found_seen p c = record { fileid = c.fileid; node = node_of p.stripes p.logical.directories c.fileid c.inode }
+found_seen p c = record { fileid = c.fileid; node = node_of p.stripes p.logical.directories p.logical.texts c.fileid c.inode }
 
 module _ (p : VolumeContents) (well : WellFormed p) (fileid : ℕ) (name : List ℕ) (moment : Moment) (inode : Inode) (parent : ℕ)
     (here : IsDirectoryHere p fileid name moment inode parent) where
@@ -208,7 +208,7 @@ module _ (p : VolumeContents) (well : WellFormed p) (fileid : ℕ) (name : List 
   child-right Right absent there = by (find_name name (entries_of p.logical fileid).list) refl
     where
       at : (e : Listed) → find_name name (entries_of p.logical fileid).list ≡ Some e → (o : Option Inode) → get p.logical.inodes.inodes e.fileid ≡ o
-          → Right (node_there e.fileid o) (found_at e.fileid (option_map (node_of p.stripes p.logical.directories e.fileid) o))
+          → Right (node_there e.fileid o) (found_at e.fileid (option_map (node_of p.stripes p.logical.directories p.logical.texts e.fileid) o))
       at e h None none = absurd (entry-there p well fileid name (entries_of p.logical fileid) here.entered e h none)
       at e h (Some i) some =
           there (record { fileid = e.fileid; inode = i }) (record { entry = e; found_there = h; is = refl; node = some })

@@ -78,10 +78,10 @@ module _ (p : VolumeContents) (fileid : ℕ) (name : List ℕ) (moment : Moment)
   abbrev emptied_node : Node
   emptied_node = File (file_resized 0 child.inode.attributes (file_seen p emptying size verifier))
 
-  node-emptied : node_of q.stripes q.logical.directories f left.inode ≡ emptied_node
+  node-emptied : node_of q.stripes q.logical.directories q.logical.texts f left.inode ≡ emptied_node
   node-emptied =
-      let found : Some (node_of q.stripes q.logical.directories f left.inode) ≡ Some emptied_node =
-      sym (node-at q f ∙ ap (option_map (node_of q.stripes q.logical.directories f)) there-emptied)
+      let found : Some (node_of q.stripes q.logical.directories q.logical.texts f left.inode) ≡ Some emptied_node =
+      sym (node-at q f ∙ ap (option_map (node_of q.stripes q.logical.directories q.logical.texts f)) there-emptied)
       ∙ ap (λ v. get v.nodes f) volume-emptied ∙ set-there (volume_of p) f emptied_node in
       cc
 
@@ -169,7 +169,7 @@ module _ (fileid : ℕ) (handle name : List ℕ) (node : Affinity) (moment : Mom
 
       by-kind : (child : HeldNode) → IsChildHere p fileid name child → (kind : InodeKind) → child.inode.kind ≡ kind
           → Right (remove_kind held child kind)
-          (remove_node seen child.fileid (node_by p.stripes (get p.logical.directories child.fileid) child.fileid child.inode.attributes kind))
+          (remove_node seen child.fileid (node_by p.stripes (get p.logical.directories child.fileid) (get p.logical.texts child.fileid) child.fileid child.inode.attributes child.inode.names kind))
       by-kind child under (RegularFile size filled verifier) is =
           file-gone p fileid name moment inode parent here child under size filled verifier is hands made sound hands' weigh handle node
       by-kind child under (DirectoryKind up below) is = failure _

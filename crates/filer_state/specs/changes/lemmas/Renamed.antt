@@ -68,7 +68,7 @@ pub directory-seen : (q : VolumeContents) (f : ℕ) (inode : Inode) (parent : �
     → parent_in inode.kind ≡ Some parent
     → get (volume_of q).nodes f ≡ Some (Directory (seen_directory inode (entries_of q.logical f) parent))
 directory-seen q f inode parent there says =
-    node-at q f ∙ ap (option_map (node_of q.stripes q.logical.directories f)) there
+    node-at q f ∙ ap (option_map (node_of q.stripes q.logical.directories q.logical.texts f)) there
     ∙ ap Some (kinds.directory-seen q.stripes (get q.logical.directories f) f inode.attributes inode.kind parent says)
 
 -- ---- a node under a name

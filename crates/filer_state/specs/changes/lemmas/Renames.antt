@@ -139,7 +139,7 @@ module _ (from to : List ℕ) (node : Affinity) (from_id : ℕ) (from_name : Lis
 
         -- the checks, and what follows
         module _ (target : Option HeldNode) (found_target : Option Found)
-            (go : may_go (node_of p.stripes p.logical.directories child.fileid child.inode) found_target ≡ target_may_go (logical_lens.of p) child target)
+            (go : may_go (node_of p.stripes p.logical.directories p.logical.texts child.fileid child.inode) found_target ≡ target_may_go (logical_lens.of p) child target)
             (goes : is_one_entry h ≡ false → held_above h child.fileid child.inode.kind ≡ PastIt → target_may_go (logical_lens.of p) child target ≡ true
             → Right (held_renamed h (set_renamed h child target)) (rename_told r (renamed_volume r child.fileid found_target))) where
           abbrev seen_by : Climb → Bool → Effect
@@ -164,7 +164,7 @@ module _ (from to : List ℕ) (node : Affinity) (from_id : ℕ) (from_name : Lis
           there-right : Right (rename_by h (Some child) target) (rename_at r (Some (found_seen p child)) found_target)
           there-right =
               subst (λ (m : Climb). Right (rename_by h (Some child) target)
-              (seen_by m (may_go (node_of p.stripes p.logical.directories child.fileid child.inode) found_target)))
+              (seen_by m (may_go (node_of p.stripes p.logical.directories p.logical.texts child.fileid child.inode) found_target)))
               (sym (met-seen p r h child.fileid child.inode refl refl refl refl))
               (subst (λ (d : Bool). Right (rename_by h (Some child) target) (seen_by (held_above h child.fileid child.inode.kind) d)) (sym go)
               (passed (is_one_entry h) (held_above h child.fileid child.inode.kind) (target_may_go (logical_lens.of p) child target) refl refl refl))

@@ -71,7 +71,7 @@ module _ (fileid : ℕ) (handle name : List ℕ) (node : Affinity) (moment : Mom
 
         by-kind : (kind : InodeKind) → child.inode.kind ≡ kind
             → Right (rmdir_kind held child kind)
-            (rmdir_node seen child.fileid (node_by p.stripes (get p.logical.directories child.fileid) child.fileid child.inode.attributes kind))
+            (rmdir_node seen child.fileid (node_by p.stripes (get p.logical.directories child.fileid) (get p.logical.texts child.fileid) child.fileid child.inode.attributes child.inode.names kind))
         by-kind (DirectoryKind up below) is = by-entries (subst IsEmptyKind (sym is) (tt, refl)) (entries_of p.logical child.fileid).list refl
         by-kind kind is = failure _
 

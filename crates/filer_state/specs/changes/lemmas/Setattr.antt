@@ -69,7 +69,7 @@ module _ (f : ℕ) (handle : List ℕ) (node : Affinity) (set : SetAttributes) (
     Right done effect = RightAs call p hands' (made + 1) done effect
 
     abbrev was : Inode → Node
-    was inode = node_of p.stripes p.logical.directories f inode
+    was inode = node_of p.stripes p.logical.directories p.logical.texts f inode
 
     -- what is asked of a node, and of an inode
     abbrev asked : Node → Effect
@@ -133,7 +133,7 @@ module _ (f : ℕ) (handle : List ℕ) (node : Affinity) (set : SetAttributes) (
         (by (get p.logical.inodes.inodes f) refl)
       where
         by : (o : Option Inode) → get p.logical.inodes.inodes f ≡ o
-            → Right (on_inode o (logical_lens.of p) held) (on_node (option_map (node_of p.stripes p.logical.directories f) o) asked)
+            → Right (on_inode o (logical_lens.of p) held) (on_node (option_map (node_of p.stripes p.logical.directories p.logical.texts f) o) asked)
         by None e = failure _
         by (Some old) e = at-inode old e
 

@@ -236,23 +236,23 @@ module _ (p : VolumeContents) (m : Dropping) (well : WellFormed p) (may : LosesN
     abbrev pub directory_then : Node
     directory_then = Directory (dropped_name (seen_directory m.inode m.entries parent) m.name m.moment)
 
-    is-directory : node_of after.stripes after.logical.directories m.directory (directory_left m) ≡ directory_then
+    is-directory : node_of after.stripes after.logical.directories after.logical.texts m.directory (directory_left m) ≡ directory_then
     is-directory =
         directory-seen after.stripes (get after.logical.directories m.directory) m.directory (directory_left m).attributes (directory_left m).kind parent
         (names.parent-kept (directories_in m.dropped.kind) m.inode.kind ∙ says)
         ∙ ap (λ (o : Option DirectoryValue). Directory (seen_directory (directory_left m) (directory_or_empty o) parent)) directory-entries
 
     other-node : (q : ℕ) → (q == m.directory) ≡ false → (q == m.fileid) ≡ false → (inode : Inode)
-        → node_of after.stripes after.logical.directories q inode ≡ node_of p.stripes p.logical.directories q inode
+        → node_of after.stripes after.logical.directories after.logical.texts q inode ≡ node_of p.stripes p.logical.directories p.logical.texts q inode
     other-node q ne left inode = λ j. node_with
         (λ size. blocks.bytes-stay (card_dropped m.fileid) (λ s. refl) p.stripes q size j) (stay q j) (touch-other m.fileid p.stripes q left j)
         (directory_or_empty (other-entries q ne left j)) inode.attributes inode.kind
 
     abbrev now : ℕ → Inode → Node
-    now = node_of after.stripes after.logical.directories
+    now = node_of after.stripes after.logical.directories after.logical.texts
 
     abbrev was : ℕ → Inode → Node
-    was = node_of p.stripes p.logical.directories
+    was = node_of p.stripes p.logical.directories p.logical.texts
 
     abbrev answer : ℕ → Option Node
     answer q = if q == m.directory then Some directory_then else if q == m.fileid then None else get (volume_of p).nodes q

@@ -75,7 +75,7 @@ module _ (p : VolumeContents) (m : Making) (well : WellFormed p) (may : MayBeMad
       by (Some x) e = absurd cc
 
   -- as it is seen
-  this-node : node_of after.stripes after.logical.directories f m.made ≡ new_node m.made
+  this-node : node_of after.stripes after.logical.directories after.logical.texts f m.made ≡ new_node m.made
   this-node = λ j. node_with (λ size. bytes-none after.stripes f absent-blocks size j)
       ((blocks.filled-stays (card_made owner k f) (blocks-same owner k f) p.stripes f ∙ none-filled p.stripes f (no-block p m well may)) j)
       (touch-none owner k f p.stripes (no-card p m well may) j) (empty-found j) m.made.attributes k
@@ -93,7 +93,7 @@ module _ (p : VolumeContents) (m : Making) (well : WellFormed p) (may : MayBeMad
   -- ---- the directory, and the others
 
   is-directory : (parent : ℕ) → parent_in m.inode.kind ≡ Some parent
-      → node_of after.stripes after.logical.directories m.directory (directory_inode m)
+      → node_of after.stripes after.logical.directories after.logical.texts m.directory (directory_inode m)
       ≡ Directory (with_name (seen_directory m.inode m.entries parent) m.name f m.moment)
   is-directory parent says =
       directory-seen after.stripes (get after.logical.directories m.directory) m.directory (directory_inode m).attributes (directory_inode m).kind parent
@@ -105,7 +105,7 @@ module _ (p : VolumeContents) (m : Making) (well : WellFormed p) (may : MayBeMad
           p.logical.largest may.is_new
 
   other-node : (q : ℕ) → (q == m.directory) ≡ false → (q == f) ≡ false → (inode : Inode)
-      → node_of after.stripes after.logical.directories q inode ≡ node_of p.stripes p.logical.directories q inode
+      → node_of after.stripes after.logical.directories after.logical.texts q inode ≡ node_of p.stripes p.logical.directories p.logical.texts q inode
   other-node q ne older inode = λ j. node_with
       (λ size. blocks.bytes-stay (card_made owner k f) (blocks-same owner k f) p.stripes q size j)
       (blocks.filled-stays (card_made owner k f) (blocks-same owner k f) p.stripes q j)
@@ -119,10 +119,10 @@ module _ (p : VolumeContents) (m : Making) (well : WellFormed p) (may : MayBeMad
 
   module _ (parent : ℕ) (says : parent_in m.inode.kind ≡ Some parent) where
     abbrev now : ℕ → Inode → Node
-    now = node_of after.stripes after.logical.directories
+    now = node_of after.stripes after.logical.directories after.logical.texts
 
     abbrev was : ℕ → Inode → Node
-    was = node_of p.stripes p.logical.directories
+    was = node_of p.stripes p.logical.directories p.logical.texts
 
     abbrev pub entered_node : Node
     entered_node = Directory (with_name (seen_directory m.inode m.entries parent) m.name f m.moment)

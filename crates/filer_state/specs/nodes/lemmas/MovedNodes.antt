@@ -50,13 +50,13 @@ moved-kind bytes blocks touch d a parent moment kind = refl
 module _ (s : LogicalSet) (m : Naming) (there : inode_of s.own.inodes m.directory ≡ Some m.inode)
     (parent : ℕ) (says : parent_in m.inode.kind ≡ Some parent) where
   abbrev was : ℕ → Inode → Node
-  was = node_of s.stripes s.own.directories
+  was = node_of s.stripes s.own.directories s.own.texts
 
   abbrev taken : LogicalSet
   taken = entry_taken m s
 
   abbrev now : ℕ → Inode → Node
-  now = node_of taken.stripes taken.own.directories
+  now = node_of taken.stripes taken.own.directories taken.own.texts
 
   abbrev dated : Inode
   dated = dated_inode m.moment (without_subdirectories (directories_in m.node.kind) m.inode.kind) m.inode
@@ -105,13 +105,13 @@ module _ (s : LogicalSet) (m : Naming) (there : inode_of s.own.inodes m.director
   touch = file_touch s.stripes m.fileid
 
   abbrev seen : ℕ → Inode → Node
-  seen = node_of s.stripes s.own.directories
+  seen = node_of s.stripes s.own.directories s.own.texts
 
   abbrev hung : LogicalSet
   hung = node_hung_up m touch s
 
   abbrev then_seen : ℕ → Inode → Node
-  then_seen = node_of hung.stripes hung.own.directories
+  then_seen = node_of hung.stripes hung.own.directories hung.own.texts
 
   abbrev dated_to : Inode
   dated_to = dated_inode m.moment (with_subdirectories (directories_in m.node.kind) m.inode.kind) m.inode

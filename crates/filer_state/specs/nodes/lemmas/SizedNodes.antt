@@ -193,10 +193,10 @@ module _ (p : VolumeContents) (m : Sizing) (well : WellFormed p) (there : get p.
   -- ---- nodes
 
   abbrev now : ℕ → Inode → Node
-  now = node_of after.stripes after.logical.directories
+  now = node_of after.stripes after.logical.directories after.logical.texts
 
   abbrev was : ℕ → Inode → Node
-  was = node_of p.stripes p.logical.directories
+  was = node_of p.stripes p.logical.directories p.logical.texts
 
   abbrev file_was : FileNode
   file_was = file_seen p m old_size verifier
@@ -206,7 +206,7 @@ module _ (p : VolumeContents) (m : Sizing) (well : WellFormed p) (there : get p.
 
   is-file : now f next_inode ≡ File (file_resized m.size m.attributes file_was)
   is-file =
-      ap (λ k. node_by after.stripes (get p.logical.directories f) f m.attributes (kind_sized m.size (length (all_freed f m.size p.stripes)) k)) is_file
+      ap (λ k. node_by after.stripes (get p.logical.directories f) (get p.logical.texts f) f m.attributes m.names (kind_sized m.size (length (all_freed f m.size p.stripes)) k)) is_file
       ∙ (λ j. File (record {
         attributes = m.attributes;
         bytes = bytes-after j;

@@ -28,13 +28,13 @@ module _ (p : VolumeContents) where
   held = logical_lens.of p
 
   abbrev seen : ℕ → Inode → Node
-  seen fileid inode = node_of p.stripes p.logical.directories fileid inode
+  seen fileid inode = node_of p.stripes p.logical.directories p.logical.texts fileid inode
 
   -- a node is protected as its inode is
   same-protection : (fileid : ℕ) (inode : Inode) → protection (seen fileid inode) ≡ protection_of inode
   same-protection fileid inode = by inode.kind
     where
-      by : (k : InodeKind) → protection (node_by p.stripes (get p.logical.directories fileid) fileid inode.attributes k)
+      by : (k : InodeKind) → protection (node_by p.stripes (get p.logical.directories fileid) (get p.logical.texts fileid) fileid inode.attributes inode.names k)
           ≡ protection_of (record inode { kind = k })
       by (DirectoryKind parent subdirectories) = refl
       by k = refl
@@ -55,9 +55,9 @@ module _ (p : VolumeContents) where
   at-file fileid ask = ap (λ (o : Option Node). of_file o ask) (node-at p fileid) ∙ by (get p.logical.inodes.inodes fileid)
     where
       kinds : (inode : Inode) (k : InodeKind) → inode.kind ≡ k
-          → of_file (Some (node_by p.stripes (get p.logical.directories fileid) fileid inode.attributes k)) ask ≡ if_file k (ask (protection_of inode))
+          → of_file (Some (node_by p.stripes (get p.logical.directories fileid) (get p.logical.texts fileid) fileid inode.attributes inode.names k)) ask ≡ if_file k (ask (protection_of inode))
       kinds inode (RegularFile size filled verifier) is =
-          ap ask (ap (λ (k : InodeKind). protection (node_by p.stripes (get p.logical.directories fileid) fileid inode.attributes k)) (sym is)
+          ap ask (ap (λ (k : InodeKind). protection (node_by p.stripes (get p.logical.directories fileid) (get p.logical.texts fileid) fileid inode.attributes inode.names k)) (sym is)
           ∙ same-protection fileid inode)
       kinds inode k is = refl
 
@@ -72,11 +72,11 @@ module _ (p : VolumeContents) where
   at-directory fileid ask told same = ap (λ (o : Option Node). of_directory o ask) (node-at p fileid) ∙ by (get p.logical.inodes.inodes fileid)
     where
       kinds : (inode : Inode) (k : InodeKind) → inode.kind ≡ k
-          → of_directory (Some (node_by p.stripes (get p.logical.directories fileid) fileid inode.attributes k)) ask
+          → of_directory (Some (node_by p.stripes (get p.logical.directories fileid) (get p.logical.texts fileid) fileid inode.attributes inode.names k)) ask
           ≡ if_directory k (told (protection_of inode))
       kinds inode (DirectoryKind parent subdirectories) is =
           same _ refl
-          ∙ ap told (ap (λ (k : InodeKind). protection (node_by p.stripes (get p.logical.directories fileid) fileid inode.attributes k)) (sym is)
+          ∙ ap told (ap (λ (k : InodeKind). protection (node_by p.stripes (get p.logical.directories fileid) (get p.logical.texts fileid) fileid inode.attributes inode.names k)) (sym is)
           ∙ same-protection fileid inode)
       kinds inode k is = refl
 
