@@ -15,8 +15,8 @@ use Rattle.nfs_model.specs.volume.Directories.{DirectoryValue}
 use Rattle.nfs_model.specs.volume.Inodes.{InodeKind, DirectoryKind, Inode}
 use Rattle.nfs_model.specs.volume.lemmas.Maps.{get-map_values}
 use Rattle.filer_state.specs.state.Contents.{VolumeContents}
-use Rattle.filer_state.specs.state.Tree.{file_byte, file_bytes, file_filled, file_touch, directory_or_empty, node_by, node_of, volume_of}
-use Rattle.filer_state.specs.state.Names.{is_directory, directories_listed, subdirectories_of, subdirectories_in}
+use Rattle.filer_state.specs.state.Tree.{file_byte, file_bytes, file_filled, file_touch, directory_or_empty, node_by, node_of, volume_of, text_or_empty}
+use Rattle.filer_state.specs.state.Names.{is_directory, directories_listed, subdirectories_of, subdirectories_in, text_length_of}
 use Rattle.filer_state.specs.state.WellFormed.{WellFormed}
 use Rattle.filer_state.specs.state.Partition.{times_in_hand}
 use Rattle.filer_state.specs.state.Sound.{IsSound}
@@ -26,7 +26,7 @@ use Rattle.filer_state.specs.state.Promises.{RightOnVolume}
 use Rattle.filer_state.specs.state.Calls.{ServesOn, answer_of, volume_left}
 use Rattle.filer_state.specs.state.Changes.{shown_inode, getattr_answer}
 use Rattle.filer_state.specs.attributes.Laws.{getattr_call}
-use Rattle.filer_state.specs.laws.lemmas.InodeKinds.{counted-directory, shown-with}
+use Rattle.filer_state.specs.laws.lemmas.InodeKinds.{counted-directory, shown-with, text-told}
 use Rattle.filer_state.specs.laws.lemmas.Steps.{sound-later}
 
 module _ (p : VolumeContents) where
@@ -76,9 +76,11 @@ module _ (p : VolumeContents) where
     pub node-shown : (fileid : ℕ) (inode : Inode) → get p.logical.inodes.inodes fileid ≡ Some inode
         → shown (volume_of p) fileid (node_of p.stripes p.logical.directories p.logical.texts fileid inode) ≡ shown_inode p.number fileid inode (file_touch p.stripes fileid)
     node-shown fileid inode there = shown-with (volume_of p) fileid (file_bytes p.stripes fileid) (file_filled p.stripes fileid)
-        (file_touch p.stripes fileid) (directory_or_empty (get p.logical.directories fileid)) inode.attributes
+        (file_touch p.stripes fileid) (directory_or_empty (get p.logical.directories fileid)) (text_or_empty (get p.logical.texts fileid)) inode.attributes
+        inode.names
         (λ size. length-map-range_with_len (file_byte p.stripes fileid) 0 size) inode.kind (well.filled fileid inode there)
         (links fileid inode there)
+        (text-told (get p.logical.texts fileid) inode.kind (well.logical.texts fileid ∙ ap text_length_of there))
 
 -- ---- calls that change nothing
 
