@@ -20,6 +20,7 @@ use Rattle.filer_state.specs.state.WellFormed.{WellFormed}
 use Rattle.filer_state.specs.state.Partition.{all_numbers, StandOnce}
 use Rattle.filer_state.specs.laws.lemmas.Mapped.{entry-at-least}
 use Rattle.filer_state.specs.laws.lemmas.Counted.{all-times, all-length}
+use Rattle.nfs_model.specs.volume.Inodes.{Inode}
 
 -- ---- this many different numbers
 

@@ -60,7 +60,7 @@ module _ (old : InodesValue) (directories : DirectoryMap) (m : Naming) (stands :
       (ap parent_directory untied-directory ∙ parent-kept (directories_in m.node.kind) m.inode.kind ∙ sym (ap parent_directory stands.there))
       (λ q ne. ap parent_directory (untied-other q ne))
 
-  names-same : (q : ℕ) → names_of (inode_of new q) ≡ names_of (inode_of old q)
+  pub names-same : (q : ℕ) → names_of (inode_of new q) ≡ names_of (inode_of old q)
   names-same = by-fileid (λ q. names_of (inode_of new q) ≡ names_of (inode_of old q))
       (ap names_of untied-directory ∙ sym (ap names_of stands.there))
       (λ q ne. ap names_of (untied-other q ne))
