@@ -16,7 +16,7 @@ use Rattle.nfs_model.specs.volume.Directories.{DirectoryValue, found}
 use Rattle.nfs_model.specs.volume.Inodes.{InodeKind, DirectoryKind, Inode}
 use Rattle.filer_state.specs.state.Contents.{VolumeContents}
 use Rattle.filer_state.specs.state.Tree.{directory_or_empty, node_by, node_of, volume_of}
-use Rattle.filer_state.specs.state.Names.{parent_in, is_directory, is_named, root, times_in_list}
+use Rattle.filer_state.specs.state.Names.{parent_in, is_directory, times_in_list, names_of, times_named}
 use Rattle.filer_state.specs.state.WellFormed.{WellFormed}
 use Rattle.filer_state.specs.state.Partition.{stored, times_in_hand}
 use Rattle.filer_state.specs.state.Sound.{IsSound}
@@ -183,9 +183,8 @@ module _ (p : VolumeContents) (well : WellFormed p) (fileid : ℕ) (name : List 
       let some = found-counted name d.list e h in
       let more = entry-at-least nat_cmp-IsAntisymmetric (λ (x : ℕ × DirectoryValue). times_in_list e.fileid x.1.list)
       p.logical.directories fileid d entered in
-      let once = well.logical.named.once e.fileid in
-      let zero : one_if (is_named p.logical.inodes.inodes e.fileid) ≡ 0 = ap (λ o. one_if (is_some o && not (e.fileid == root))) none in
-      omega (arith, some, more, once, zero)
+      let zero : times_named e.fileid p.logical.directories ≡ 0 = well.logical.named.counted e.fileid ∙ ap names_of none in
+      omega (arith, some, more, zero)
 
 -- what is known of the node under a name
 pub record IsChildHere (p : VolumeContents) (fileid : ℕ) (name : List ℕ) (child : HeldNode) : Type 0 where

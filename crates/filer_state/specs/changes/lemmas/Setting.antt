@@ -149,12 +149,13 @@ module _ (p : VolumeContents) (f : ℕ) (set : SetAttributes) (moment : Moment) 
     numbers-stay (s ∷ stripes) = ap (λ ns. numbers_in s ++ ns) (numbers-stay stripes)
 
     sound-after : IsSound after hands' (made + 1)
-    sound-after = sound-set p f old next there refl hands hands' made weigh sound
+    sound-after = sound-set p f old next there (record { kind = refl; names = refl }) hands hands' made weigh sound
 
     volume-after : volume_of after ≡ with_node (volume_of p) f node
     volume-after = λ j. record (volume_of p) {
       next = next-set p.logical.inodes f next j;
-      nodes = (nodes-set p.stripes p.logical.directories f (ownership_of next.attributes) p.logical.inodes old next there refl
+      nodes = (nodes-set p.stripes p.logical.directories p.logical.texts f (ownership_of next.attributes) p.logical.inodes old next there
+          (record { kind = refl; names = refl })
           ∙ ap (λ x. insert (volume_of p).nodes f x) node-is) j;
     }
 

@@ -85,14 +85,14 @@ module _ (p : VolumeContents) where
   above-seen : (q : ℕ) → parent_above q (get (volume_of p).nodes q) ≡ above q (parent_directory (get p.logical.inodes.inodes q))
   above-seen q = ap (parent_above q) (node-at p q) ∙ by (get p.logical.inodes.inodes q)
     where
-      kinds : (a : Attributes) (kind : InodeKind)
-          → parent_above q (Some (node_by p.stripes (get p.logical.directories q) q a kind)) ≡ above q (parent_in kind)
-      kinds a (DirectoryKind parent subs) = refl
-      kinds a kind = refl
+      kinds : (a : Attributes) (names : ℕ) (kind : InodeKind)
+          → parent_above q (Some (node_by p.stripes (get p.logical.directories q) (get p.logical.texts q) q a names kind)) ≡ above q (parent_in kind)
+      kinds a names (DirectoryKind parent subs) = refl
+      kinds a names kind = refl
 
       by : (o : Option Inode) → parent_above q (option_map (node_of p.stripes p.logical.directories p.logical.texts q) o) ≡ above q (parent_directory o)
       by None = refl
-      by (Some inode) = kinds inode.attributes inode.kind
+      by (Some inode) = kinds inode.attributes inode.names inode.kind
 
   on-same : (o : Option ℕ) (f g : ℕ → Climb) → ((u : ℕ) → f u ≡ g u) → on_parent o f ≡ on_parent o g
   on-same None f g same = refl
