@@ -37,6 +37,18 @@ use Rattle.std.proofs.lemmas.Bool.Decides.{nat_tests}
 more-than-one : (n : ℕ) → 1 < n → nat_le n 1 ≡ false
 more-than-one n h = grind (arith, nat_tests, h)
 
+-- a directory has at most one name
+pub names-of-directory : (p : VolumeContents) → WellFormed p → (f : ℕ) (inode : Inode) → get p.logical.inodes.inodes f ≡ Some inode
+    → is_directory (get p.logical.inodes.inodes f) ≡ true → inode.names ≤ 1
+names-of-directory p well f inode there is =
+    let once : inode.names ≡ one_if (not (f == root)) = sym (ap names_of there) ∙ well.logical.named.once f is in
+    let most = at-most (not (f == root)) in
+    omega (arith, once, most)
+  where
+    at-most : (b : Bool) → one_if b ≤ 1
+    at-most true = omega arith
+    at-most false = omega arith
+
 module _ (p : VolumeContents) (m : Naming) (well : WellFormed p) (may : KeepsAName m p.logical.inodes p.logical.directories) where
   abbrev old : InodesValue
   old = p.logical.inodes

@@ -58,10 +58,10 @@ module _ (old : InodesValue) (directories : DirectoryMap) (m : Naming) (touch : 
   pub still : inode_of between m.fileid ≡ Some m.node
   still = inode-set-other old m.directory dated m.fileid apart-turned ∙ may.node
 
-  hung-node : inode_of new m.fileid ≡ Some (node_hung m touch)
+  pub hung-node : inode_of new m.fileid ≡ Some (node_hung m touch)
   hung-node = inode-set-there between m.fileid m.node (node_hung m touch) still
 
-  hung-directory : inode_of new m.directory ≡ Some dated
+  pub hung-directory : inode_of new m.directory ≡ Some dated
   hung-directory = inode-set-other between m.fileid (node_hung m touch) m.directory apart ∙ inode-set-there old m.directory m.inode dated may.there
 
   hung-other : (q : ℕ) → (q == m.directory) ≡ false → (q == m.fileid) ≡ false → inode_of new q ≡ inode_of old q

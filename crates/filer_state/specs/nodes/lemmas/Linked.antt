@@ -107,7 +107,7 @@ module _ (p : VolumeContents) (m : Naming) (well : WellFormed p) (may : MayBeLin
           at : directory_above old.inodes k m.directory ≡ m.fileid
           at = eqb-true (directory_above old.inodes k m.directory) m.fileid e
 
-  may-hang : MayHang m old p.logical.directories
+  pub may-hang : MayHang m old p.logical.directories
   may-hang = record {
     there = may.there;
     entered = may.entered;
