@@ -12,7 +12,6 @@ use Rattle.nfs_model.specs.Names.{is_dots}
 use Rattle.nfs_model.specs.Server.{Node, File, VolumeState, filled_in, used}
 use Rattle.nfs_model.specs.Locate.{Effect, Fails, Found, Naming, named_child}
 use Rattle.nfs_model.specs.Serial.Remove as removes
-use Rattle.nfs_model.specs.Serial.Remove.{without_child, gone, remove_node, remove_at, remove_name}
 use Rattle.nfs_model.specs.Serial.Setattr.{with_node}
 use Rattle.nfs_model.specs.Moves.{Emptied}
 use Rattle.nfs_model.specs.Parts.{Hand}

@@ -9,7 +9,7 @@ use Rattle.std.specs.FinMap.{FinMap, get, insert, remove, len, nat_cmp-IsAntisym
 use Rattle.std.specs.FinSet as sets
 use Rattle.std.specs.FinSet.{FinSet, contains, retain, contains-retain, from_list}
 use Rattle.nfs_model.specs.Names.{dropped_name}
-use Rattle.nfs_model.specs.Server.{DirectoryNode, Directory, VolumeState, block_size, used}
+use Rattle.nfs_model.specs.Server.{DirectoryNode, Directory, VolumeState, block_size, used, Node}
 use Rattle.nfs_model.specs.Shown.{shown, before_of}
 use Rattle.nfs_model.specs.Parts.{Hand}
 use Rattle.nfs_model.specs.Moves.{PartsChange}
@@ -125,11 +125,15 @@ without-last p child moment last = by child.inode.kind
     few : nat_le child.inode.names 1 ≡ true
     few = grind (arith, nat_tests, last)
 
+    none-where : (b : Bool) (node : Node) → b ≡ true → (if b then None else Some node) ≡ None
+    none-where true node e = refl
+    none-where false node e = absurd cc
+
     by : (k : InodeKind) → without_link moment (node_by p.stripes (get p.logical.directories child.fileid) (get p.logical.texts child.fileid) child.fileid
         child.inode.attributes child.inode.names k) ≡ None
-    by (RegularFile size filled verifier) = ap (λ (b : Bool). if b then None else Some _) few
+    by (RegularFile size filled verifier) = none-where (nat_le child.inode.names 1) _ few
     by (DirectoryKind parent subs) = refl
-    by (SpecialFile special size) = ap (λ (b : Bool). if b then None else Some _) few
+    by (SpecialFile special size) = none-where (nat_le child.inode.names 1) _ few
 
 -- the volume without it
 pub last-left : (p : VolumeContents) (seen : Naming) (child : HeldNode) → child.inode.names ≤ 1 → seen.volume ≡ volume_of p

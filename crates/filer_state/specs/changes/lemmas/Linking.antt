@@ -32,7 +32,6 @@ use Rattle.filer_state.specs.state.Calls.{VolumeCall}
 use Rattle.filer_state.specs.state.Changes.{LogicalAnswer, shown_inode}
 use Rattle.filer_state.specs.attributes.lemmas.Getting.{node-at}
 use Rattle.filer_state.specs.attributes.lemmas.Kept.{touch-gone}
-use Rattle.filer_state.specs.bytes.lemmas.Leaving.{emptied-none}
 use Rattle.filer_state.specs.laws.lemmas.Counted.{used-is}
 use Rattle.filer_state.specs.laws.lemmas.SameBlocks.{total-mapped}
 use Rattle.filer_state.specs.laws.lemmas.Steps.{sound-later}
@@ -42,7 +41,7 @@ use Rattle.filer_state.specs.nodes.Making.{directories_in, with_subdirectories}
 use Rattle.filer_state.specs.nodes.Moving as moving
 use Rattle.filer_state.specs.nodes.Moving.{node_hung, node_hung_up}
 use Rattle.filer_state.specs.nodes.Laws.{WeighAlike, MayHang, MayBeLinked, seen_directory, linked_in}
-use Rattle.filer_state.specs.nodes.lemmas.Named as made
+use Rattle.filer_state.specs.nodes.lemmas.Named as named
 use Rattle.filer_state.specs.nodes.lemmas.Hung.{apart, apart-turned, hung-node, hung-directory}
 use Rattle.filer_state.specs.nodes.lemmas.Linked.{sound-linked, volume-linked, may-hang}
 use Rattle.filer_state.specs.changes.Named.{fails, unless_fault, on_inode, on_held_name, HeldNaming, HeldNode, node_under}
@@ -51,7 +50,6 @@ use Rattle.filer_state.specs.changes.Linking.{failing_with_three, link_done}
 use Rattle.filer_state.specs.changes.Laws.{IsDone, MayStarve, link_call}
 use Rattle.filer_state.specs.changes.lemmas.Named.{RightFor, done-right-for, naming_held, naming_seen, IsDirectoryHere, named-right, child-right}
 use Rattle.filer_state.specs.changes.lemmas.Named.{before-shown}
-use Rattle.filer_state.specs.changes.lemmas.Setattr.{unchanged}
 use Rattle.filer_state.specs.changes.lemmas.Setting.{node-shows}
 use Rattle.filer_state.specs.changes.lemmas.Makes.{may-starve}
 
@@ -64,7 +62,7 @@ module _ (handle directory : List ℕ) (node : Affinity) (fileid directory_id : 
     Right done effect = RightFor 3 call p hands' (made + 1) (failing_with_three done) effect
 
     failure : (status : Status) → Right (fails status (logical_lens.of p)) (Fails status)
-    failure status = (refl, refl, unchanged p, sound-later p hands hands' made weigh sound)
+    failure status = (refl, refl, refl, sound-later p hands hands' made weigh sound)
 
     checked : (o : Option Status) (done : LogicalAnswer) (effect : Effect) → Right done effect
         → Right (unless_fault o (logical_lens.of p) done) (unless o effect)
@@ -130,15 +128,8 @@ module _ (handle directory : List ℕ) (node : Affinity) (fileid directory_id : 
           numbers-stay [] = refl
           numbers-stay (x ∷ stripes) = ap (λ ns. numbers_in x ++ ns) (numbers-stay stripes)
 
-          used-after : used (volume_of after) ≡ used (volume_of p)
-          used-after =
-              used-is after sound-after.well_formed ∙ sound-after.well_formed.used
-              ∙ total-mapped (touch_taken fileid) (λ (x : StripeValue). len x.blocks) (λ x. refl) p.stripes
-              ∙ sym (used-is p sound.well_formed ∙ sound.well_formed.used)
-
-          emptied : Emptied (used (volume_of p) - used (volume_of after)) (parts_of p) (parts_of after)
-          emptied = emptied-none (parts_of p) (parts_of after) _ (let same = used-after in omega (arith, same))
-              (ap from_list (numbers-stay p.stripes)) refl refl refl
+          parts-stay : parts_of after ≡ parts_of p
+          parts-stay = λ j. record (parts_of p) { files = from_list (numbers-stay p.stripes j) }
 
           object-shown : shown (with_another seen found_object) fileid (with_link moment found_object.node)
               ≡ shown_inode p.number fileid (node_hung m touch) None
@@ -165,7 +156,7 @@ module _ (handle directory : List ℕ) (node : Affinity) (fileid directory_id : 
               else get (insert (volume_of p).nodes fileid (with_link moment found_object.node)) directory_id) (itself directory_id))
               (hung-directory p.logical.inodes p.logical.directories m touch hangs)
               ∙ same-shown p.number directory_id (directory_linked m) parent
-              (made.parent-kept (directories_in object.kind) inode.kind ∙ here.says) (file_touch after.stripes directory_id)
+              (named.parent-kept (directories_in object.kind) inode.kind ∙ here.says) (file_touch after.stripes directory_id)
 
           linked-right : Right (held_linked held held_object) (links.linked seen found_object)
           linked-right =
@@ -174,7 +165,7 @@ module _ (handle directory : List ℕ) (node : Affinity) (fileid directory_id : 
               let later = sym directory-shown in (
                 λ j. LinkDone (object_told j) (record { before = before j; after = later j }),
                 volume-after,
-                emptied,
+                parts-stay,
                 sound-after,
               )
 

@@ -8,10 +8,11 @@ use Rattle.nfs_model.specs.Types.{Moment, Caller, Listed, SetAttributes, CreateM
 use Rattle.nfs_model.specs.Tree.{Affinity}
 use Rattle.nfs_model.specs.Server.{Node, Server, used}
 use Rattle.nfs_model.specs.Names.{is_dots, find_name}
-use Rattle.nfs_model.specs.Locate.{Effect, Fails, Found, Naming, named_child, locate, node_named}
+use Rattle.nfs_model.specs.Locate.{Effect, Fails, Found, Naming, named_child, locate, node_named, unless}
 use Rattle.nfs_model.specs.Serial.Absent.{absent_parts}
+use Rattle.nfs_model.specs.Serial.Create as creating
 use Rattle.nfs_model.specs.Serial.Create.{create, create_at}
-use Rattle.nfs_model.specs.Serial.Mkdir.{mkdir, mkdir_at}
+use Rattle.nfs_model.specs.Serial.Mkdir.{mkdir, mkdir_at, mkdir_fault}
 use Rattle.nfs_model.specs.Serial.Starve.{entry_in, takes_memory}
 use Rattle.nfs_model.specs.Work.{Starved}
 use Rattle.nfs_model.specs.Parts.{Hand}
@@ -27,14 +28,14 @@ use Rattle.filer_state.specs.attributes.lemmas.Getting.{node-at, reads-right}
 use Rattle.filer_state.specs.attributes.lemmas.Setattr.{emptied-none}
 use Rattle.filer_state.specs.names.Answers.{entries_of}
 use Rattle.filer_state.specs.nodes.Laws.{WeighAlike}
-use Rattle.filer_state.specs.changes.Named.{HeldNaming, HeldNode, fails, node_under}
-use Rattle.filer_state.specs.changes.Making.{create_by, mkdir_by, held_create, held_mkdir, symlink_by, held_symlink, mknod_of, mknod_by, held_mknod}
+use Rattle.filer_state.specs.changes.Named.{HeldNaming, HeldNode, fails, node_under, unless_fault}
+use Rattle.filer_state.specs.changes.Making.{create_by, mkdir_by, held_create, held_mkdir, symlink_by, held_symlink, mknod_of, mknod_by, held_mknod, mkdir_check, held_made, special_inode, maker_in}
 use Rattle.filer_state.specs.changes.Laws.{create_call, mkdir_call, create_done, mkdir_done, IsDone, MayStarve, symlink_call, mknod_call, symlink_done, mknod_done}
 use Rattle.filer_state.specs.changes.lemmas.Named.{RightAs, done-right, naming_held, naming_seen, IsDirectoryHere, named-right, child-right}
 use Rattle.filer_state.specs.changes.lemmas.Making.{SaysNothing, failure-right}
 use Rattle.filer_state.specs.changes.lemmas.Creating.{file-right, directory-right, link-right, bare-right}
 use Rattle.filer_state.specs.changes.lemmas.Existing.{there-as}
-use Rattle.nfs_model.specs.Serial.Symlink.{symlink_at, symlink}
+use Rattle.nfs_model.specs.Serial.Symlink.{symlink_at, symlink, new_special}
 use Rattle.nfs_model.specs.Serial.Mknod.{mknod_kind, mknod_at, mknod}
 
 -- ---- CREATE
@@ -140,20 +141,20 @@ module _ (handle : List ℕ) (node : Affinity) (fileid : ℕ) (name : List ℕ) 
     links-fails status = failure-right p hands hands' made sound weigh links links-says status
 
     module _ (inode : Inode) (parent : ℕ) (here : IsDirectoryHere p fileid name moment inode parent) where
-      abbrev held : HeldNaming
-      held = naming_held p fileid name moment inode
+      abbrev held_link_name : HeldNaming
+      held_link_name = naming_held p fileid name moment inode
 
-      abbrev seen : Naming
-      seen = naming_seen p fileid name moment inode parent
+      abbrev seen_link_name : Naming
+      seen_link_name = naming_seen p fileid name moment inode parent
 
-      links-under : RightSymlink (symlink_by held set text caller (node_under held)) (symlink_at seen set text caller (named_child seen))
+      links-under : RightSymlink (symlink_by held_link_name set text caller (node_under held_link_name)) (symlink_at seen_link_name set text caller (named_child seen_link_name))
       links-under = child-right p sound.well_formed fileid name moment inode parent here
-          (λ (o : Option HeldNode) (x : Option Found). RightSymlink (symlink_by held set text caller o) (symlink_at seen set text caller x))
+          (λ (o : Option HeldNode) (x : Option Found). RightSymlink (symlink_by held_link_name set text caller o) (symlink_at seen_link_name set text caller x))
           (λ absent. link-right p hands hands' made sound weigh links links-says fileid name moment inode parent here absent set text caller)
           (λ c there. links-fails Exists)
 
-      links-here : (b : Bool) → RightSymlink (if b then fails Exists (logical_lens.of p) else symlink_by held set text caller (node_under held))
-          (if b then Fails Exists else symlink_at seen set text caller (named_child seen))
+      links-here : (b : Bool) → RightSymlink (if b then fails Exists (logical_lens.of p) else symlink_by held_link_name set text caller (node_under held_link_name))
+          (if b then Fails Exists else symlink_at seen_link_name set text caller (named_child seen_link_name))
       links-here true = links-fails Exists
       links-here false = links-under
 
@@ -182,36 +183,39 @@ module _ (handle : List ℕ) (node : Affinity) (fileid : ℕ) (name : List ℕ) 
     makes_node-fails status = failure-right p hands hands' made sound weigh makes_node makes_node-says status
 
     module _ (inode : Inode) (parent : ℕ) (here : IsDirectoryHere p fileid name moment inode parent) where
-      abbrev held : HeldNaming
-      held = naming_held p fileid name moment inode
+      abbrev held_node_name : HeldNaming
+      held_node_name = naming_held p fileid name moment inode
 
-      abbrev seen : Naming
-      seen = naming_seen p fileid name moment inode parent
+      abbrev seen_node_name : Naming
+      seen_node_name = naming_seen p fileid name moment inode parent
 
       by-kind : found (entries_of p.logical fileid) name ≡ None → (kind : Kind)
-          → RightMknod (mknod_of held kind set caller) (mknod_kind seen kind set caller)
+          → RightMknod (mknod_of held_node_name kind set caller) (mknod_kind seen_node_name kind set caller)
       by-kind absent Regular = makes_node-fails BadType
       by-kind absent types.DirectoryKind = makes_node-fails BadType
       by-kind absent (SpecialKind special) = by special
         where
-          bare : (special : SpecialType) → RightMknod _ _
+          bare : (special : SpecialType) → RightMknod
+              (unless_fault (mkdir_check set (logical_lens.of p)) (logical_lens.of p)
+              (held_made held_node_name (special_inode special 420 set 0 (maker_in caller held_node_name) moment) None))
+              (unless (mkdir_fault (volume_of p) set) (creating.made seen_node_name (new_special special 420 set [] (creating.maker caller seen_node_name) moment)))
           bare special = bare-right p hands hands' made sound weigh makes_node makes_node-says fileid name moment inode parent here absent special set caller
 
-          by : (special : SpecialType) → RightMknod (mknod_of held (SpecialKind special) set caller) (mknod_kind seen (SpecialKind special) set caller)
+          by : (special : SpecialType) → RightMknod (mknod_of held_node_name (SpecialKind special) set caller) (mknod_kind seen_node_name (SpecialKind special) set caller)
           by SymbolicLink = makes_node-fails BadType
           by Fifo = bare Fifo
           by Socket = bare Socket
           by (BlockDevice device) = bare (BlockDevice device)
           by (CharacterDevice device) = bare (CharacterDevice device)
 
-      makes_node-under : RightMknod (mknod_by held kind set caller (node_under held)) (mknod_at seen kind set caller (named_child seen))
+      makes_node-under : RightMknod (mknod_by held_node_name kind set caller (node_under held_node_name)) (mknod_at seen_node_name kind set caller (named_child seen_node_name))
       makes_node-under = child-right p sound.well_formed fileid name moment inode parent here
-          (λ (o : Option HeldNode) (x : Option Found). RightMknod (mknod_by held kind set caller o) (mknod_at seen kind set caller x))
+          (λ (o : Option HeldNode) (x : Option Found). RightMknod (mknod_by held_node_name kind set caller o) (mknod_at seen_node_name kind set caller x))
           (λ absent. by-kind absent kind)
           (λ c there. makes_node-fails Exists)
 
-      makes_node-here : (b : Bool) → RightMknod (if b then fails Exists (logical_lens.of p) else mknod_by held kind set caller (node_under held))
-          (if b then Fails Exists else mknod_at seen kind set caller (named_child seen))
+      makes_node-here : (b : Bool) → RightMknod (if b then fails Exists (logical_lens.of p) else mknod_by held_node_name kind set caller (node_under held_node_name))
+          (if b then Fails Exists else mknod_at seen_node_name kind set caller (named_child seen_node_name))
       makes_node-here true = makes_node-fails Exists
       makes_node-here false = makes_node-under
 

@@ -30,7 +30,7 @@ use Rattle.filer_state.specs.state.Partition.{parts_of, numbers_in, all_numbers}
 use Rattle.filer_state.specs.state.Sound.{IsSound}
 use Rattle.filer_state.specs.state.Lenses.{LogicalSet, logical_lens}
 use Rattle.filer_state.specs.state.Changes.{shown_inode}
-use Rattle.filer_state.specs.bytes.lemmas.Leaving.{emptied-none}
+use Rattle.filer_state.specs.attributes.lemmas.Setattr.{emptied-none}
 use Rattle.filer_state.specs.laws.lemmas.Counted.{used-is}
 use Rattle.filer_state.specs.laws.lemmas.SameBlocks.{total-mapped}
 use Rattle.filer_state.specs.names.Answers.{entries_of}
@@ -72,7 +72,7 @@ above-gone new old t c same none other (suc n) q clear = by (q == t) refl (above
 
 module _ (p : VolumeContents) (fileid : ℕ) (name : List ℕ) (moment : Moment) (inode : Inode) (parent : ℕ)
     (here : IsDirectoryHere p fileid name moment inode parent) (child : HeldNode) (under : IsChildHere p fileid name child)
-    (hands hands' : List Hand) (made now : ℕ) (later : made ≤ now) (sound : IsSound p hands made) (weigh : WeighAlike p.number hands hands') where
+    (hands hands' : List Hand) (made now : ℕ) (later : made ≤ now) (good : IsSound p hands made) (weigh : WeighAlike p.number hands hands') where
   abbrev t : ℕ
   t = child.fileid
 
@@ -171,9 +171,9 @@ module _ (p : VolumeContents) (fileid : ℕ) (name : List ℕ) (moment : Moment)
 
     pub bare-gone : IsGone (node_dropped (dropping_of held child) (logical_lens.of p))
     bare-gone =
-        let parts = parts-gone p (dropping_of held child) loses-bare parent here.says hands hands made made (omega arith) (λ n. refl) sound in
-        let stays = used-gone p (dropping_of held child) loses-bare parent here.says hands hands made made (omega arith) (λ n. refl) sound in
-        dropped-gone child.inode (logical_lens.of p) loses-bare sound last refl (λ x ne. refl) (λ x. refl) weigh refl
+        let parts = parts-gone p (dropping_of held child) loses-bare parent here.says hands hands made made (omega arith) (λ n. refl) good in
+        let stays = used-gone p (dropping_of held child) loses-bare parent here.says hands hands made made (omega arith) (λ n. refl) good in
+        dropped-gone child.inode (logical_lens.of p) loses-bare good last refl (λ x ne. refl) (λ x. refl) weigh refl
         (emptied-none (parts_of p) (parts_of (after (node_dropped (dropping_of held child) (logical_lens.of p)))) _ (omega (arith, stays))
         (ap (λ x. x.files) parts) (ap (λ x. x.dead) parts) (ap (λ x. x.stock) parts) (ap (λ x. x.free) parts))
 
@@ -184,12 +184,12 @@ module _ (p : VolumeContents) (fileid : ℕ) (name : List ℕ) (moment : Moment)
 
     pub file-gone : IsGone (node_dropped (dropping_of held (child_emptied child (logical_lens.of p))) cut)
     file-gone = dropped-gone (child_emptied child (logical_lens.of p)).inode cut
-        (emptying.loses p fileid name moment inode parent here child under size filled verifier is_file last hands made sound)
-        (emptying.sound-emptied p fileid name moment inode parent here child under size filled verifier is_file last hands made sound) last
+        (emptying.loses p fileid name moment inode parent here child under size filled verifier is_file last hands made good)
+        (emptying.sound-emptied p fileid name moment inode parent here child under size filled verifier is_file last hands made good) last
         (ap (λ (k : InodeKind). directories_in (kind_sized 0 (length (all_freed t 0 p.stripes)) k)) is_file ∙ sym (ap directories_in is_file))
         (λ x ne. inode-set-other p.logical.inodes t (child_emptied child (logical_lens.of p)).inode x ne) (λ x. refl) weigh
-        (emptying.seen-left p fileid name moment inode parent here child under size filled verifier is_file last hands made sound hands (λ n. refl))
-        (emptying.emptied p fileid name moment inode parent here child under size filled verifier is_file last hands made sound hands (λ n. refl))
+        (emptying.seen-left p fileid name moment inode parent here child under size filled verifier is_file last hands made good hands (λ n. refl))
+        (emptying.emptied p fileid name moment inode parent here child under size filled verifier is_file last hands made good hands (λ n. refl))
 
   -- ---- a node that has other names
 
@@ -219,13 +219,13 @@ module _ (p : VolumeContents) (fileid : ℕ) (name : List ℕ) (moment : Moment)
 
     -- it isn't its own directory
     apart : (t == fileid) ≡ false
-    apart = not-itself p sound.well_formed fileid name child under here.entered
+    apart = not-itself p good.well_formed fileid name child under here.entered
 
     apart-turned : (fileid == t) ≡ false
     apart-turned = ne_eqb fileid t (λ (e : fileid ≡ t). let is : (t == fileid) ≡ true = eq-eqb t fileid (sym e) in let isnt = apart in cc)
 
     sound-kept : IsSound (after kept) hands' now
-    sound-kept = counted.sound-counted p m sound.well_formed keeps hands hands' made now later weigh sound
+    sound-kept = counted.sound-counted p m good.well_formed keeps hands hands' made now later weigh good
 
     at-node : get kept.own.inodes.inodes t ≡ Some (node_counted m touch)
     at-node = inode-set-there (inodes_untied m p.logical.inodes) t child.inode (node_counted m touch)
@@ -264,7 +264,7 @@ module _ (p : VolumeContents) (fileid : ℕ) (name : List ℕ) (moment : Moment)
     used-kept =
         used-is (after kept) sound-kept.well_formed ∙ sound-kept.well_formed.used
         ∙ total-mapped (touch_taken t) (λ (x : StripeValue). len x.blocks) (λ x. refl) p.stripes
-        ∙ sym (used-is p sound.well_formed ∙ sound.well_formed.used)
+        ∙ sym (used-is p good.well_formed ∙ good.well_formed.used)
 
     -- the node, with one name less
     abbrev left_names : Option Node → Node
@@ -281,24 +281,28 @@ module _ (p : VolumeContents) (fileid : ℕ) (name : List ℕ) (moment : Moment)
         many : nat_le child.inode.names 1 ≡ false
         many = grind (arith, nat_tests, more)
 
+        some-where : (b : Bool) (node : Node) → b ≡ false → is_some (if b then None else Some node) ≡ true
+        some-where true node e = absurd cc
+        some-where false node e = refl
+
         no-directory : {up below : ℕ} → child.inode.kind ≡ DirectoryKind up below → ⊥
         no-directory is =
             let as_directory : is_directory (get p.logical.inodes.inodes t) ≡ true =
             ap is_directory under.node ∙ ap (λ (k : InodeKind). is_some (parent_in k)) is in
-            let one = counted.names-of-directory p sound.well_formed t child.inode under.node as_directory in
+            let one = counted.names-of-directory p good.well_formed t child.inode under.node as_directory in
             let many = more in
             omega (arith, one, many)
 
         by : (k : InodeKind) → child.inode.kind ≡ k
             → is_some (without_link moment (node_by p.stripes (get p.logical.directories t) (get p.logical.texts t) t child.inode.attributes child.inode.names k)) ≡ true
-        by (RegularFile size filled verifier) is = ap (λ (b : Bool). is_some (if b then None else Some _)) many
+        by (RegularFile size filled verifier) is = some-where (nat_le child.inode.names 1) _ many
         by (DirectoryKind up below) is = absurd (no-directory is)
-        by (SpecialFile special size) is = ap (λ (b : Bool). is_some (if b then None else Some _)) many
+        by (SpecialFile special size) is = some-where (nat_le child.inode.names 1) _ many
 
     pub kept-gone : IsGone kept
     kept-gone = record {
       sound = sound-kept;
-      volume = counted.volume-counted p m sound.well_formed keeps parent (left_names (without_link moment (found_seen p child).node)) here.says some-left
+      volume = counted.volume-counted p m good.well_formed keeps parent (left_names (without_link moment (found_seen p child).node)) here.says some-left
           ∙ (λ j. record (volume_of p) { nodes = insert (node_left (volume_of p).nodes t (sym some-left j)) fileid (removes.directory_left seen) });
       emptied = emptied-none (parts_of p) (parts_of (after kept)) _ (let same = used-kept in omega (arith, same))
           (ap from_list (numbers-stay p.stripes)) refl refl refl;
@@ -317,7 +321,7 @@ module _ (p : VolumeContents) (fileid : ℕ) (name : List ℕ) (moment : Moment)
   gone-all empty = by (nat_le child.inode.names 1) refl
     where
       not-directory : (k : InodeKind) → child.inode.kind ≡ k → parent_in k ≡ None → (entries_of p.logical t).list ≡ []
-      not-directory k is none = none-entries (get p.logical.directories t) (sound.well_formed.logical.named.as_directories t
+      not-directory k is none = none-entries (get p.logical.directories t) (good.well_formed.logical.named.as_directories t
           ∙ ap is_directory under.node ∙ ap (λ (k : InodeKind). is_some (parent_in k)) is ∙ ap (λ (o : Option ℕ). is_some o) none)
         where
           none-entries : (o : Option DirectoryValue) → is_some o ≡ false → (directory_or_empty o).list ≡ []

@@ -66,7 +66,7 @@ module _ (fileid : ℕ) (handle name : List ℕ) (node : Affinity) (moment : Mom
               gone_now.sound,
             )
           where
-            abbrev told : Answer
+            told : Answer
             told = GoneDone (directory_change held (directory_left (dropping_of held child)))
 
             told-last : (k : InodeKind) → child.inode.kind ≡ k → (last_gone held child k).answer ≡ told

@@ -12,7 +12,7 @@ use Rattle.nfs_model.specs.Parts.{Hand}
 use Rattle.nfs_model.specs.Moves.{Emptied}
 use Rattle.nfs_model.specs.Locate.{Effect, Fails, unless, Found, named_child, Located, located_in, located_by, locate, is_node_of, node_named}
 use Rattle.nfs_model.specs.Serial.Rename as renames
-use Rattle.nfs_model.specs.Serial.Rename.{Renaming, Climb, PastIt, ToIt, TooFar, climb_fault, may_go, with_moved, with_entry, without_entry, renamed_volume}
+use Rattle.nfs_model.specs.Serial.Rename.{Renaming, Climb, PastIt, ToIt, TooFar, climb_fault, may_go, with_moved, with_entry, without_entry, renamed_volume, met_above}
 use Rattle.nfs_model.specs.Serial.Rename.{rename_told, same_told, rename_at, rename_in}
 use Rattle.nfs_model.specs.Serial.Starve.{takes_memory, name_one, entry_in, entry_named}
 use Rattle.nfs_model.specs.volume.Inodes.{Inode}
@@ -42,6 +42,7 @@ use Rattle.filer_state.specs.changes.lemmas.Hanging.{q_hung, sound-hung, from-so
 use Rattle.filer_state.specs.changes.lemmas.Replacing.{IsFree, free-by}
 use Rattle.filer_state.specs.changes.lemmas.Told.{directory-right, directory-told, met-seen, may-go-seen, clear-of}
 use Rattle.filer_state.specs.permissions.Refusing.{are_one}
+use Rattle.std.specs.Option.{option_map}
 
 module _ (from to : List ℕ) (node : Affinity) (from_id : ℕ) (from_name : List ℕ) (to_id : ℕ) (to_name : List ℕ) (moment : Moment) where
   abbrev call : VolumeCall
@@ -144,9 +145,9 @@ module _ (from to : List ℕ) (node : Affinity) (from_id : ℕ) (from_name : Lis
             (go : may_go (node_of p.stripes p.logical.directories p.logical.texts child.fileid child.inode) found_target ≡ target_may_go (logical_lens.of p) child target)
             (goes : is_held child target ≡ false → held_above h child.fileid child.inode.kind ≡ PastIt → target_may_go (logical_lens.of p) child target ≡ true
             → Right (held_renamed h (set_renamed h child target)) (rename_told r (renamed_volume r child.fileid found_target))) where
-          abbrev seen_by : Climb → Bool → Effect
-          seen_by met may =
-              if is_node_of child.fileid found_target then same_told r
+          abbrev seen_by : Bool → Climb → Bool → Effect
+          seen_by one met may =
+              if one then same_told r
               else unless (climb_fault met)
               (if not may then Fails Exists else rename_told r (renamed_volume r child.fileid found_target))
 
@@ -165,11 +166,13 @@ module _ (from to : List ℕ) (node : Affinity) (from_id : ℕ) (from_name : Lis
 
           there-right : Right (rename_by h (Some child) target) (rename_at r (Some (found_seen p child)) found_target)
           there-right =
-              subst (λ (m : Climb). Right (rename_by h (Some child) target)
-              (seen_by m (may_go (node_of p.stripes p.logical.directories p.logical.texts child.fileid child.inode) found_target)))
+              subst (λ (a : Bool). Right (rename_by h (Some child) target) (seen_by a (met_above r child.fileid (found_seen p child).node)
+              (may_go (node_of p.stripes p.logical.directories p.logical.texts child.fileid child.inode) found_target))) (sym one_node)
+              (subst (λ (m : Climb). Right (rename_by h (Some child) target)
+              (seen_by (is_held child target) m (may_go (node_of p.stripes p.logical.directories p.logical.texts child.fileid child.inode) found_target)))
               (sym (met-seen p r h child.fileid child.inode refl refl refl refl))
-              (subst (λ (d : Bool). Right (rename_by h (Some child) target) (seen_by (held_above h child.fileid child.inode.kind) d)) (sym go)
-              (passed (is_held child target) (held_above h child.fileid child.inode.kind) (target_may_go (logical_lens.of p) child target) refl refl refl))
+              (subst (λ (d : Bool). Right (rename_by h (Some child) target) (seen_by (is_held child target) (held_above h child.fileid child.inode.kind) d)) (sym go)
+              (passed (is_held child target) (held_above h child.fileid child.inode.kind) (target_may_go (logical_lens.of p) child target) refl refl refl)))
 
         -- by whether there is a target
         target-right : Right (rename_by h (Some child) (node_under h.to)) (rename_at r (Some (found_seen p child)) (named_child r.to))

@@ -4,7 +4,7 @@ use Rattle.std.proofs.Common.{refl, sym, ap, ◌∙◌, subst, arith, ne_eqb, eq
 use Rattle.std.specs.Prelude.{if◌then◌else◌}
 use Rattle.std.specs.FinMap.{get, remove}
 use Rattle.nfs_model.specs.Types.{Moment, Listed}
-use Rattle.nfs_model.specs.Server.{Directory, used}
+use Rattle.nfs_model.specs.Server.{Directory, used, Node}
 use Rattle.nfs_model.specs.Names.{same_name, dropped_name}
 use Rattle.nfs_model.specs.Parts.{Hand}
 use Rattle.nfs_model.specs.Moves.{Emptied}

@@ -4,16 +4,16 @@ use Rattle.std.proofs.Common.{refl, sym, ap, ◌∙◌, subst, arith, ne_eqb, eq
 use Rattle.std.specs.Prelude.{is_some}
 use Rattle.std.proofs.lemmas.Bool.{eqb-true}
 use Rattle.std.specs.FinMap.{get, nat_cmp-IsAntisymmetric}
-use Rattle.nfs_model.specs.Types.{Moment}
+use Rattle.nfs_model.specs.Types.{Moment, Listed}
 use Rattle.nfs_model.specs.Names.{same_name}
-use Rattle.nfs_model.specs.Parts.{one_if}
+use Rattle.nfs_model.specs.Parts.{one_if, Hand}
 use Rattle.nfs_model.specs.volume.Directories.{DirectoryValue, found, removed}
 use Rattle.nfs_model.specs.volume.Inodes.{Inode}
-use Rattle.nfs_model.specs.volume.lemmas.Directories.{same-turned, found-removed, found-removed-other}
+use Rattle.nfs_model.specs.volume.lemmas.Directories.{same-turned, found-removed, found-removed-other, same-is}
 use Rattle.nfs_model.specs.volume.lemmas.Numbered.{itself}
 use Rattle.filer_state.specs.state.Contents.{VolumeContents}
 use Rattle.filer_state.specs.state.Tree.{directory_or_empty}
-use Rattle.filer_state.specs.state.Names.{InodeMap, parent_directory, parent_or, is_named, times_in_list, times_named, directory_above, AreNamed}
+use Rattle.filer_state.specs.state.Names.{InodeMap, parent_directory, parent_or, times_in_list, times_named, directory_above, AreNamed}
 use Rattle.filer_state.specs.state.WellFormed.{WellFormed}
 use Rattle.filer_state.specs.names.Answers.{entries_of}
 use Rattle.filer_state.specs.nodes.Dropping.{Dropping}
@@ -32,6 +32,8 @@ use Rattle.filer_state.specs.changes.lemmas.Renamed.{or-empty}
 use Rattle.filer_state.specs.changes.lemmas.Hanging.{MayMove}
 use Rattle.filer_state.specs.changes.lemmas.NamesGone.{IsGone}
 use Rattle.filer_state.specs.nodes.Making.{directories_in}
+use Rattle.filer_state.specs.state.Lenses.{LogicalSet}
+use Rattle.filer_state.specs.nodes.lemmas.Unnamed.{parent-kept}
 
 module _ (p : VolumeContents) (well : WellFormed p) (from_id : ℕ) (from_name : List ℕ) (to_id : ℕ) (to_name : List ℕ) (moment : Moment)
     (fi : Inode) (fp : ℕ) (here_from : IsDirectoryHere p from_id from_name moment fi fp)

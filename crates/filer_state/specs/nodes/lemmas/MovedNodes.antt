@@ -41,7 +41,7 @@ node-of-directory stripes o t d q a names k parent is says =
     ∙ (λ j. Directory (record { attributes = a; parent = parent; next = (directory_or_empty (is j)).next; list = (directory_or_empty (is j)).list }))
 
 -- a node that moves, by its kind
-moved-kind : (bytes : ℕ → List ℕ) (blocks : FinSet nat_cmp) (touch : Option Moment) (d : DirectoryValue) (text : List ℕ) (a : Attributes)
+pub moved-kind : (bytes : ℕ → List ℕ) (blocks : FinSet nat_cmp) (touch : Option Moment) (d : DirectoryValue) (text : List ℕ) (a : Attributes)
     (names parent : ℕ) (moment : Moment) (k : InodeKind)
     → node_with bytes blocks None d text (record (attributes_now touch a k) { ctime = moment }) names (with_parent parent k)
     ≡ moved_node parent moment (node_with bytes blocks touch d text a names k)
