@@ -1,5 +1,5 @@
 -- CREATE and MKDIR by what is under Logical.
-use Rattle.std.proofs.Common.{◌≡◌, ℕ, ◌+◌, ◌-◌, not, Bool, true, false, List, Option, Some, None, refl, sym, ap, ◌∙◌, subst, arith}
+use Rattle.std.proofs.Common.{◌≡◌, ℕ, ◌+◌, ◌-◌, not, Bool, true, false, List, Option, Some, None, refl, sym, ap, ◌∙◌, subst, arith, []}
 use Rattle.std.specs.Prelude.{IsTrue, is_some, if◌then◌else◌, is_none}
 use Rattle.std.specs.Option.{option_map}
 use Rattle.std.specs.FinMap.{get}

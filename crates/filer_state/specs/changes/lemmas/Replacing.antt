@@ -14,7 +14,7 @@ use Rattle.nfs_model.specs.Serial.Rename.{in_directory, is_empty_list, without_t
 use Rattle.nfs_model.specs.volume.Directories.{found}
 use Rattle.nfs_model.specs.volume.Inodes.{InodeKind, RegularFile, DirectoryKind, Inode}
 use Rattle.nfs_model.specs.volume.lemmas.Inodes.{inode-set-other}
-use Rattle.nfs_model.specs.volume.lemmas.Numbered.{get-remove_at}
+use Rattle.nfs_model.specs.volume.lemmas.Numbered.{get-remove_at, get-insert_at}
 use Rattle.filer_state.specs.state.Contents.{VolumeContents}
 use Rattle.filer_state.specs.state.Tree.{directory_or_empty, volume_of}
 use Rattle.filer_state.specs.state.Names.{parent_in, directory_above}

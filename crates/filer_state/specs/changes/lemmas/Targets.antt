@@ -19,7 +19,7 @@ use Rattle.filer_state.specs.names.Answers.{entries_of}
 use Rattle.filer_state.specs.nodes.Dropping.{Dropping}
 use Rattle.filer_state.specs.nodes.Moving as moving
 use Rattle.filer_state.specs.nodes.Moving.{inodes_untied, entries_untied}
-use Rattle.filer_state.specs.nodes.Laws.{LosesName, StandsUnder}
+use Rattle.filer_state.specs.nodes.Laws.{LosesName, StandsUnder, WeighAlike}
 use Rattle.filer_state.specs.nodes.lemmas.Unnamed as gone
 use Rattle.filer_state.specs.nodes.lemmas.Untied.{named-untied, untied-entries, untied-others}
 use Rattle.filer_state.specs.nodes.lemmas.Dropped.{left_in}
@@ -32,8 +32,9 @@ use Rattle.filer_state.specs.changes.lemmas.Renamed.{or-empty}
 use Rattle.filer_state.specs.changes.lemmas.Hanging.{MayMove}
 use Rattle.filer_state.specs.changes.lemmas.NamesGone.{IsGone}
 use Rattle.filer_state.specs.nodes.Making.{directories_in}
-use Rattle.filer_state.specs.state.Lenses.{LogicalSet}
+use Rattle.filer_state.specs.state.Lenses.{LogicalSet, logical_lens}
 use Rattle.filer_state.specs.nodes.lemmas.Unnamed.{parent-kept}
+use Rattle.filer_state.specs.state.Sound.{IsSound}
 
 module _ (p : VolumeContents) (well : WellFormed p) (from_id : ℕ) (from_name : List ℕ) (to_id : ℕ) (to_name : List ℕ) (moment : Moment)
     (fi : Inode) (fp : ℕ) (here_from : IsDirectoryHere p from_id from_name moment fi fp)
