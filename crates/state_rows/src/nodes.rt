@@ -199,6 +199,47 @@ fn of_each_kind(rt: HostRuntime) {
     mem::forget(inodes);
 }
 
+/// How many names an inode has, and its times.
+fn linked(inode: Option<Inode>) -> Option<(u32, Moment, Moment)> {
+    inode.map(|inode| (inode.names, inode.attributes.mtime, inode.attributes.ctime))
+}
+
+#[test]
+fn names(rt: HostRuntime) {
+    let (touch, moment) = (
+        Moment {
+            seconds: 9,
+            nanoseconds: 0,
+        },
+        Moment {
+            seconds: 8,
+            nanoseconds: 1,
+        },
+    );
+    let one = file(4096, 1);
+    let two = one.with_link(Some(touch), moment);
+    same(&rt, &linked(two), &Some((2, touch, moment)));
+    let two = one.with_link(None, moment).expect(&rt, "a second name");
+    same(&rt, &linked(Some(two)), &Some((2, MADE, moment)));
+    let again = two.without_link(None, touch);
+    same(&rt, &linked(again), &Some((1, MADE, touch)));
+    same(&rt, &one.without_link(None, touch), &None);
+    let most = Inode {
+        names: 65_000,
+        ..one
+    };
+    same(&rt, &most.with_link(None, moment), &None);
+    let fewer = Inode {
+        names: 64_999,
+        ..one
+    };
+    same(
+        &rt,
+        &linked(fewer.with_link(None, moment)),
+        &Some((65_000, MADE, moment)),
+    );
+}
+
 #[test]
 fn as_many_as_a_volume_has(rt: HostRuntime) {
     let mut inodes = no_files(&rt);
