@@ -12,7 +12,7 @@ USERS = (
     User(1003, 0, (100,)), User(1003, 500, (0, 200)), User(65_534, 65_534, ()), Nobody(),
 )  # fmt: skip
 UIDS, GIDS = (0, 1000, 1001, 1002, 65_534), (0, 100, 200, 300, 414, 65_534)
-NAMES = (b"a", b"b", b"c", b"d", b"e", b".", b"..")
+NAMES = (b"a", b"b", b"c", b"d", b"e", b"f", b"g", b".", b"..")
 OFFSETS = (0, 3, 5000, 70_000, 300_000)
 # Texts of symbolic links, good ones and bad ones, and kinds that MKNOD may be asked for.
 TEXTS, KINDS = (b"a", b"../b", 1024 * b"t", 1025 * b"t", b"", b"a\0b"), (1, 2, 3, 4, 5, 6, 7, 6, 7)
@@ -72,7 +72,7 @@ class Walk:
         if chance < 0.41:
             return "write", (file, choose((b"some", b"some", b"")), choose(OFFSETS)), {}
         if chance < 0.53:
-            return "rename", (here, name, self.of_kind(DIRECTORY), choose(NAMES[:5])), {}
+            return "rename", (here, name, self.of_kind(DIRECTORY), choose(NAMES[:7])), {}
         if chance < 0.62:
             return choose(("remove", "remove", "rmdir")), (here, name), {}
         if chance < 0.66:
