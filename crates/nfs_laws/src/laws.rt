@@ -8,8 +8,8 @@ ghost use Rattle.std.specs.FinSet.{FinSet};
 ghost use Rattle.nfs_model.specs.Types.{Call, Caller, Moment, Kind, Listed};
 ghost use Rattle.nfs_model.specs.Types.{SetAttributes, Status, Failed};
 ghost use Rattle.nfs_model.specs.Tree.{Layout};
-ghost use Rattle.nfs_model.specs.Server.{opening, FileNode, DirectoryNode, Node};
-ghost use Rattle.nfs_model.specs.Server.{File, Directory, VolumeState, Server};
+ghost use Rattle.nfs_model.specs.Server.{opening, FileNode, DirectoryNode, SpecialNode, Node};
+ghost use Rattle.nfs_model.specs.Server.{File, Directory, Special, VolumeState, Server};
 ghost use Rattle.nfs_model.specs.Locate.{Effect};
 ghost use Rattle.nfs_model.specs.Serial.Absent.{absent_parts};
 ghost use Rattle.nfs_model.specs.Serial.Rights.{Protection, protection, Rights};
@@ -317,5 +317,25 @@ pub fn strangers_change_no_bytes()
         ≡ Some (File file)
         → AreAskedBy (MayNotWrite (protection (File file))) after
         → IsAsWas (File file)
+        (node_of (server_after (opening layout verifier) (before ++ after)) volume fileid) }
+{}
+
+/// While strangers alone call, what is neither a file nor a directory keeps its kind, its text, its
+/// mode, its owner and its group, as long as it is there: callers that are checked, are neither uid
+/// 0 nor its owner, and haven't w of it.
+pub fn strangers_change_no_texts()
+    ensures any { (server : Server) (volume fileid : ℕ) (state : VolumeState)
+        (node : SpecialNode) (calls : List FinishedCall)
+        → slice_get server.volumes volume ≡ Some state
+        → get state.nodes fileid ≡ Some (Special node)
+        → nat_lt fileid state.next ≡ true
+        → AreAskedBy (MayNotWrite (protection (Special node))) calls
+        → IsAsWas (Special node) (node_of (server_after server calls) volume fileid) }
+    ensures run { (layout : Layout) (verifier : List ℕ) (before after : List FinishedCall)
+        (volume fileid : ℕ) (node : SpecialNode)
+        → node_of (server_after (opening layout verifier) before) volume fileid
+        ≡ Some (Special node)
+        → AreAskedBy (MayNotWrite (protection (Special node))) after
+        → IsAsWas (Special node)
         (node_of (server_after (opening layout verifier) (before ++ after)) volume fileid) }
 {}
