@@ -6,7 +6,7 @@ use Rattle.std.specs.FinMap.{get}
 use Rattle.std.specs.FinSet.{from_list}
 use Rattle.nfs_model.specs.Types.{Ownership}
 use Rattle.nfs_model.specs.Tree.{Affinity}
-use Rattle.nfs_model.specs.Server.{Attributes, FileNode, Node, File, Directory, VolumeState, used}
+use Rattle.nfs_model.specs.Server.{Attributes, FileNode, Node, File, Directory, Special, VolumeState, used}
 use Rattle.nfs_model.specs.Parts.{Hand}
 use Rattle.nfs_model.specs.Serial.Rights.{ownership_of, without_set_ids}
 use Rattle.nfs_model.specs.Serial.Setattr.{with_node}
@@ -41,6 +41,7 @@ numbers-stay f owner (s ∷ stripes) = ap (λ ns. numbers_in s ++ ns) (numbers-s
 abbrev stored_in : Node → Attributes
 stored_in (File g) = g.attributes
 stored_in (Directory d) = d.attributes
+stored_in (Special s) = s.attributes
 
 -- an inode that is there, and its node
 record Next (q : VolumeContents) (f : ℕ) (node : Node) : Type 0 where
@@ -80,11 +81,12 @@ module _ (p q : VolumeContents) (f : ℕ) (handle : List ℕ) (w : Writing) (nod
       ∙ ap (λ (b : Bool). if b then Some (File now) else get (volume_of p).nodes f) (itself f))
 
   attributes : next.inode.attributes ≡ bytes.inode.attributes
-  attributes = sym (by next.inode.attributes next.inode.kind) ∙ ap stored_in next.is
+  attributes = sym (by next.inode.attributes next.inode.names next.inode.kind) ∙ ap stored_in next.is
     where
-      by : (a : Attributes) (k : InodeKind) → stored_in (node_by q.stripes (get q.logical.directories f) f a k) ≡ a
-      by a (RegularFile size filled verifier) = refl
-      by a k = refl
+      by : (a : Attributes) (names : ℕ) (k : InodeKind)
+          → stored_in (node_by q.stripes (get q.logical.directories f) (get q.logical.texts f) f a names k) ≡ a
+      by a names (RegularFile size filled verifier) = refl
+      by a names k = refl
 
   abbrev pub ended : VolumeContents
   ended = ended_in (owner_at (get p.logical.inodes.inodes f)) f q

@@ -62,6 +62,6 @@ module _ (p : VolumeContents) (fileid : ℕ) where
       → shown (volume_of p) fileid (Directory (directory_at inode parent)) ≡ shown_inode p.number fileid inode None
   directory-kind-shown well inode parent there says =
       sym (ap (shown (volume_of p) fileid)
-      (directory-seen p.stripes (get p.logical.directories fileid) fileid inode.attributes inode.kind parent says))
+      (directory-seen p.stripes (get p.logical.directories fileid) (get p.logical.texts fileid) fileid inode.attributes inode.names inode.kind parent says))
       ∙ node-shown p well fileid inode there
       ∙ same-shown p.number fileid inode parent says (file_touch p.stripes fileid)
