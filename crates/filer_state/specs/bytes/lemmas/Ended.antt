@@ -101,7 +101,7 @@ module _ (p q : VolumeContents) (f : ℕ) (handle : List ℕ) (w : Writing) (nod
 
   pub sound-ended : IsSound ended hands made
   sound-ended =
-      subst (λ (c : VolumeContents). IsSound c hands made) (sym ended-is) (sound-owned q f next.inode (with_mode mode next.inode) next.there refl hands made sound)
+      subst (λ (c : VolumeContents). IsSound c hands made) (sym ended-is) (sound-owned q f next.inode (with_mode mode next.inode) next.there (record { kind = refl; names = refl }) hands made sound)
 
   clears-file : clears_set_ids w.caller file ≡ true
   clears-file = ap (clears_owned w.caller) (sym owner-is) ∙ clears
@@ -109,7 +109,7 @@ module _ (p q : VolumeContents) (f : ℕ) (handle : List ℕ) (w : Writing) (nod
   pub volume-ended : volume_of ended
       ≡ with_node (volume_of p) f (File (written_file (file_taken w.caller file) w.offset (bytes_kept w) w.moment))
   volume-ended =
-      ap volume_of ended-is ∙ volume-owned q f next.inode (with_mode mode next.inode) next.there refl
+      ap volume_of ended-is ∙ volume-owned q f next.inode (with_mode mode next.inode) next.there (record { kind = refl; names = refl })
       ∙ ap (λ (x : Node). with_node (volume_of q) f (with_owner (record next.inode.attributes { mode = mode }) x)) next.is
       ∙ (λ j. with_node (left j) f (File (record now { attributes = record (attributes j) { mode = mode } })))
       ∙ (λ j. record (volume_of p) {

@@ -26,7 +26,7 @@ use Rattle.filer_state.specs.attributes.lemmas.Getting.{node-at}
 use Rattle.filer_state.specs.names.Answers.{entries_of}
 use Rattle.filer_state.specs.permissions.Refusing.{of_inode, if_directory, of_directory_inode, if_file, of_file_inode, protection_at}
 use Rattle.filer_state.specs.permissions.Refusing.{new_asked, over_kind, create_asked, gone_asked, target_asked, moved_kind, move_asked}
-use Rattle.filer_state.specs.permissions.Refusing.{mknod_asked, are_one, of_held_name, of_held_names, link_asked, asked_of, refusal_held}
+use Rattle.filer_state.specs.permissions.Refusing.{protection_under, mknod_asked, are_one, of_held_name, of_held_names, link_asked, asked_of, refusal_held}
 
 module _ (p : VolumeContents) where
   abbrev held : LogicalSet
@@ -149,15 +149,15 @@ module _ (p : VolumeContents) where
         ap (λ (o : Option Node). move_refusal who stays from to (found_at e.fileid o) (child (volume_of p) t)) (node-at p e.fileid)
         ∙ by (get p.logical.inodes.inodes e.fileid) refl
       where
-        neither : (b : Bool) → None {A = Status} ≡ (if b then None else None)
-        neither true = refl
-        neither false = refl
+        neither : (b : Bool) (x : Option Status) → x ≡ (if b then x else x)
+        neither true x = refl
+        neither false x = refl
 
         by : (o : Option Inode) → get p.logical.inodes.inodes e.fileid ≡ o
             → move_refusal who stays from to (found_at e.fileid (option_map (seen e.fileid) o)) (child (volume_of p) t)
             ≡ (if are_one (Some e.fileid) (option_map (λ (e : Listed). e.fileid) t) then None
             else move_asked who stays from to (option_map protection_of o) (protection_at held (option_map (λ (e : Listed). e.fileid) t)))
-        by None there = neither (are_one (Some e.fileid) (option_map (λ (e : Listed). e.fileid) t))
+        by None there = neither (are_one (Some e.fileid) (option_map (λ (e : Listed). e.fileid) t)) None
         by (Some inode) there =
             let one = one-same e.fileid inode there t in
             let moved : moved_refusal who stays (seen e.fileid inode) ≡ moved_kind who stays (protection_of inode) (protection_of inode).kind =
@@ -185,14 +185,22 @@ module _ (p : VolumeContents) where
     names-same : (from_name to_name : List ℕ) (from to : ℕ)
         → rename_refusal who from_name to_name (volume_of p) from to ≡ of_held_names who from_name to_name held from to
     names-same from_name to_name from to = at-directory from _ _ (λ d list. at-directory to _ _ (λ e others.
-        λ j. then_asks (needs (may_search who (protection (Directory d)))) (then_asks (needs (may_search who (protection (Directory e))))
-        ((λ i. if is_no_child from_name || is_no_child to_name then None
-        else ((λ k. move_refusal who (from == to) (protection (Directory d)) (protection (Directory e))
-        (child (volume_of p) (find_name from_name (list k))) (child (volume_of p) (find_name to_name (others k))))
-        ∙ move-same (from == to) (protection (Directory d)) (protection (Directory e)) (find_name from_name (entries_of p.logical from).list)
-        (find_name to_name (entries_of p.logical to).list)) i)
+        ap (λ (x : Option Status). then_asks (needs (may_search who (protection (Directory d))))
+        (then_asks (needs (may_search who (protection (Directory e)))) x))
+        ((λ j. if is_no_child from_name || is_no_child to_name then None
+        else moved (protection (Directory d)) (protection (Directory e)) d.list e.list list others j)
         ∙ either-none (is_no_child from_name || is_no_child to_name)
-        (are_one (fileid_found (entries_of p.logical from) from_name) (fileid_found (entries_of p.logical to) to_name)) _) j)))
+        (are_one (fileid_found (entries_of p.logical from) from_name) (fileid_found (entries_of p.logical to) to_name)) _)))
+      where
+        moved : (source target : Protection) (ones twos : List Listed) → ones ≡ (entries_of p.logical from).list → twos ≡ (entries_of p.logical to).list
+            → move_refusal who (from == to) source target (child (volume_of p) (find_name from_name ones)) (child (volume_of p) (find_name to_name twos))
+            ≡ (if are_one (fileid_found (entries_of p.logical from) from_name) (fileid_found (entries_of p.logical to) to_name) then None
+            else move_asked who (from == to) source target (protection_under held from from_name) (protection_under held to to_name))
+        moved source target ones twos list others =
+            (λ j. move_refusal who (from == to) source target (child (volume_of p) (find_name from_name (list j)))
+            (child (volume_of p) (find_name to_name (others j))))
+            ∙ move-same (from == to) source target (find_name from_name (entries_of p.logical from).list)
+            (find_name to_name (entries_of p.logical to).list)
 
     -- a new name of a node
     link-same : (name : List ℕ) (fileid directory : ℕ)
