@@ -2,7 +2,6 @@
 //! for each group of them; and the steps of which other calls are made.
 #![tactic(auto)]
 
-mod access;
 mod ahead;
 mod as_directory;
 mod asking;

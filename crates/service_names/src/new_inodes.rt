@@ -14,7 +14,7 @@ use crate::attributes::{given_mode, time_after};
 use crate::parent::Parent;
 use inodes::{Inode, InodeKind, StoredAttributes};
 use nfs_values::{Caller, CreateMode, FileKind, SetAttributes, Verifier};
-use rights::{Maker, NO_ATTRIBUTES};
+use rights::Maker;
 
 /// The mode of a new file where none is given (our profile).
 const FILE_MODE: u16 = 0o644;
@@ -59,7 +59,7 @@ pub(crate) fn asked_attributes(mode: &CreateMode) -> SetAttributes
     match mode {
         CreateMode::Unchecked(set) => *set,
         CreateMode::Guarded(set) => *set,
-        CreateMode::Exclusive(_) => NO_ATTRIBUTES,
+        CreateMode::Exclusive(_) => SetAttributes::NOTHING,
     }
 }
 
