@@ -256,6 +256,7 @@ module _ (p : VolumeContents) (m : Extending) (inode : Inode) (size blocks : ℕ
         filled = filled-3 j;
         touch = touch-3 j;
         verifier = verifier;
+        links = inode.names;
       })))
 
   -- the volume after it

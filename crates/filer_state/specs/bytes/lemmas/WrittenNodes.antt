@@ -39,6 +39,7 @@ file_before p f inode size verifier = record {
   filled = file_filled p.stripes f;
   touch = file_touch p.stripes f;
   verifier = verifier;
+  links = inode.names;
 }
 
 module _ (p : VolumeContents) (i f offset : ℕ) (written : List ℕ) (moment : Moment) (on : i < length p.stripes)
@@ -122,6 +123,7 @@ module _ (p : VolumeContents) (i f offset : ℕ) (written : List ℕ) (moment : 
       filled = filled-now j;
       touch = touch-now j;
       verifier = verifier;
+      links = inode.names;
     }))
 
     nodes-now : (volume_of after).nodes ≡ insert (volume_of p).nodes f node
