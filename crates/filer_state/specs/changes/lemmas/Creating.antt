@@ -159,7 +159,7 @@ module _ (p : VolumeContents) (hands hands' : List Hand) (made : ℕ) (sound : I
   link-right set text caller =
       checked _ _ (text_fault text) (λ passes.
       special-right SymbolicLink 511 set (Some text) (length text) caller
-      (ap (λ (b : Bool). if b then None else Some (length text)) (sym (some-text text passes)) ))
+      (ap (λ (b : Bool). if b then None else Some (length text)) (sym (some-text text passes))))
     where
       some-text : (text : List ℕ) → text_fault text ≡ None → (length text == 0) ≡ false
       some-text text passes = by (nat_lt most_text (length text)) (length text == 0) passes
