@@ -92,8 +92,8 @@ pub(crate) fn set_taken(caller: &Caller, set: &SetAttributes, inode: Inode) -> S
         ≡ taken_of (caller_of caller.now) (set_of set.now) (inode_value inode) }
 {
     match inode.kind {
-        InodeKind::RegularFile { .. } => set_checked(caller, set, &protection_of(&inode)),
         InodeKind::Directory { .. } => *set,
+        _ => set_checked(caller, set, &protection_of(&inode)),
     }
 }
 
