@@ -1,6 +1,6 @@
 //! Nodes that lose their names.
 
-ghost use Rattle.std.specs.Prelude.{◌≡◌, ◌≤◌, ◌<◌, ◌^◌, ℕ, Some, None};
+ghost use Rattle.std.specs.Prelude.{◌≡◌, ◌≤◌, ◌<◌, ◌^◌, ℕ, Some, None, is_some};
 ghost use Rattle.std.specs.FinMap.{get};
 ghost use Rattle.std.specs.Option.{option_map};
 ghost use Rattle.parcels.specs.Filled.{logical_alike};
@@ -10,7 +10,7 @@ ghost use Rattle.nfs_model.specs.volume.Inodes.{inode_set, inode_dropped};
 ghost use Rattle.nfs_model.specs.volume.Maps.{changed_at};
 ghost use Rattle.inodes.specs.Inode.{attributes_value, inode_value, kind_value};
 ghost use Rattle.filer_state.specs.state.Changes.{attributes_now};
-ghost use Rattle.filer_state.specs.state.Names.{parent_in};
+ghost use Rattle.filer_state.specs.state.Names.{parent_in, size_in};
 ghost use Rattle.filer_state.specs.state.Sets.{logical_before, logical_after};
 ghost use Rattle.filer_state.specs.changes.NameAnswers.{entries_of};
 ghost use Rattle.filer_state.specs.changes.NodesDropped.{
@@ -73,9 +73,20 @@ pub(crate) fn drop_name(
     if child.inode.names > 1 {
         return drop_one_name(held, directory, name, child, moment);
     }
-    match child.inode.kind {
-        InodeKind::RegularFile { .. } => drop_file(held, directory, name, child, moment),
-        _ => drop_node(held, directory, name, child, moment),
+    if is_file(child.inode.kind) {
+        return drop_file(held, directory, name, child, moment);
+    }
+    drop_node(held, directory, name, child, moment)
+}
+
+/// Whether a node of a kind is a file.
+fn is_file(kind: InodeKind) -> bool
+    ensures { result ≡ is_some (size_in (kind_value kind)) }
+{
+    match kind {
+        InodeKind::RegularFile { .. } => true,
+        InodeKind::Directory { .. } => false,
+        InodeKind::Special { .. } => false,
     }
 }
 

@@ -1,6 +1,6 @@
 //! REMOVE and RMDIR.
 
-ghost use Rattle.std.specs.Prelude.{◌≡◌, ◌≤◌, ◌<◌, ◌^◌, [], Some};
+ghost use Rattle.std.specs.Prelude.{◌≡◌, ◌≤◌, ◌<◌, ◌^◌, [], Some, None};
 ghost use Rattle.std.specs.FinMap.{get};
 ghost use Rattle.parcels.specs.Filled.{logical_alike};
 ghost use Rattle.nfs_values.specs.Answer.{answer_of};
@@ -12,7 +12,11 @@ ghost use Rattle.filer_state.specs.state.Sets.{logical_before, logical_after};
 ghost use Rattle.inodes.specs.Inode.{kind_value};
 ghost use Rattle.filer_state.specs.changes.NameAnswers.{entries_of};
 ghost use Rattle.filer_state.specs.changes.Named.{node_under};
-ghost use Rattle.filer_state.specs.changes.Dropping.{rmdir_kind};
+ghost use Rattle.nfs_model.specs.Types.{GoneDone};
+ghost use Rattle.nfs_values.specs.Attributes.{change_of};
+ghost use Rattle.filer_state.specs.state.Names.{parent_in};
+ghost use Rattle.filer_state.specs.changes.Dropping.{name_gone, rmdir_kind};
+ghost use Rattle.service_names.specs.Changing.{MayBeSet};
 ghost use Rattle.service_names.specs.Naming.{naming_of, node_value};
 ghost use Rattle.service_names.specs.Promises.{Removes, RemovesDirectory};
 ghost use Rattle.service_names.specs.Shown.{HasFewLinks};
@@ -93,17 +97,45 @@ fn file_removed(
         Some(child) => child,
         None => return Err(Status::NoEntry),
     };
+    let as_directory = Node {
+        fileid: directory,
+        inode,
+    };
     match child.inode.kind {
         InodeKind::Directory { .. } => Err(Status::IsDirectory),
-        _ => {
-            let as_directory = Node {
-                fileid: directory,
-                inode,
-            };
-            let left = drop_name(held, as_directory, name, child, moment);
-            Ok(directory_change(volume, as_directory, left))
+        InodeKind::RegularFile { .. } => {
+            Ok(name_removed(held, volume, as_directory, name, child, moment))
+        }
+        InodeKind::Special { .. } => {
+            Ok(name_removed(held, volume, as_directory, name, child, moment))
         }
     }
+}
+
+/// Removes the name of a node that isn't a directory, and tells of the directory.
+fn name_removed(
+    held: &mut LogicalHeld<Files>,
+    volume: VolumeNumber,
+    directory: Node,
+    name: &[u8],
+    child: Node,
+    moment: Moment,
+) -> Change
+    requires child { MayBeSet child.fileid.0 (logical_before held.old) }
+    requires file { parent_in (kind_value child.inode.kind) ≡ None }
+    requires links { HasFewLinks (kind_value directory.inode.kind) }
+    requires entered { get held.old.own.directories directory.fileid.0
+        ≡ Some (entries_of held.old.own directory.fileid.0) }
+    ensures told { GoneDone (change_of result) ≡ (name_gone
+        (naming_of volume.0 directory name.now (moment_of moment) (logical_before held.old))
+        (node_value child)).answer }
+    ensures set { logical_after held.old held.new ≡ (name_gone
+        (naming_of volume.0 directory name.now (moment_of moment) (logical_before held.old))
+        (node_value child)).set }
+    ensures alike { logical_alike held.old held.new }
+{
+    let left = drop_name(held, directory, name, child, moment);
+    directory_change(volume, directory, left)
 }
 
 /// What RMDIR comes to.

@@ -60,39 +60,36 @@ pub(crate) fn shown(
             let now = inode.attributes.with_touch(touch);
             Attributes {
                 kind: FileKind::Regular,
+                links: inode.names,
                 size,
                 used: BLOCK_BYTES * u64::from(filled),
-                ..shown_empty(volume, fileid, now, inode.names)
+                ..shown_empty(volume, fileid, now)
             }
         }
         InodeKind::Directory { subdirectories, .. } => Attributes {
             kind: FileKind::Directory,
             links: 2 + subdirectories,
             size: DIRECTORY_SIZE,
-            ..shown_empty(volume, fileid, inode.attributes, inode.names)
+            ..shown_empty(volume, fileid, inode.attributes)
         },
         InodeKind::Special { special, size } => Attributes {
             kind: FileKind::Special(special),
+            links: inode.names,
             size: u64::from(size),
-            ..shown_empty(volume, fileid, inode.attributes, inode.names)
+            ..shown_empty(volume, fileid, inode.attributes)
         },
     }
 }
 
-/// The attributes of an empty file with these and as many names (fattr3, RFC 1813 section 2.6).
-fn shown_empty(
-    volume: VolumeNumber,
-    fileid: Fileid,
-    now: StoredAttributes,
-    names: u32,
-) -> Attributes
-    ensures { shown_of result ≡ shown_kind volume.0 fileid.0 (attributes_value now) names
+/// The attributes of an empty file with these and one name (fattr3, RFC 1813 section 2.6).
+fn shown_empty(volume: VolumeNumber, fileid: Fileid, now: StoredAttributes) -> Attributes
+    ensures { shown_of result ≡ shown_kind volume.0 fileid.0 (attributes_value now) 1
         (RegularFile 0 0 None) None }
 {
     Attributes {
         kind: FileKind::Regular,
         mode: u32::from(now.mode),
-        links: names,
+        links: 1,
         uid: now.uid,
         gid: now.gid,
         size: 0,
