@@ -15,11 +15,21 @@ ghost use Rattle.filer_state.specs.state.Names.{parent_in};
 ghost use Rattle.filer_state.specs.state.Promises.{HasVolume};
 ghost use Rattle.filer_state.specs.state.Sets.{logical_before, logical_after};
 ghost use Rattle.filer_state.specs.changes.NameAnswers.{entries_of};
-ghost use Rattle.filer_state.specs.changes.Linking.{held_linked, link_done};
+ghost use Rattle.filer_state.specs.changes.Linking.{
+  held_linked,
+  link_by,
+  link_done,
+  unless_directory,
+  with_three,
+};
+ghost use Rattle.filer_state.specs.changes.Named.{on_inode};
 ghost use Rattle.filer_state.specs.changes.NodesMoved.{dated_inode};
+ghost use Rattle.filer_state.specs.state.Changes.{LogicalAnswer};
+ghost use Rattle.nfs_model.specs.Serial.Links.{most_links};
+ghost use Rattle.nfs_model.specs.volume.Inodes as values;
 ghost use Rattle.service_names.specs.Linking.{LinksOne, MayBeLinked};
 ghost use Rattle.service_names.specs.Making.{naming_in_parent};
-ghost use Rattle.service_names.specs.Naming.{node_value};
+ghost use Rattle.service_names.specs.Naming.{come_to, node_value};
 ghost use Rattle.service_names.specs.Promises.{Links};
 
 use crate::child::{child_at, directory_change, directory_named, is_dots};
@@ -83,19 +93,17 @@ fn link_made(
     ensures starved { OnErr result (held.new ≡ held.old) }
     ensures alike { logical_alike held.old held.new }
 {
-    let object = match object_linked(held, fileid) {
-        Ok(object) => object,
+    let inode = match object_linked(held, fileid) {
+        Ok(inode) => inode,
         Err(status) => return Ok(Err(status)),
     };
+    let object = Node { fileid, inode };
     let inode = match directory_named(held, directory, name) {
         Ok(inode) => inode,
         Err(status) => return Ok(Err(status)),
     };
-    if is_dots(name) || child_at(held, directory, name).is_some() {
+    if is_dots(name) {
         return Ok(Err(Status::Exists));
-    }
-    if object.inode.names >= MOST_LINKS {
-        return Ok(Err(Status::TooManyLinks));
     }
     let parent = Parent {
         volume,
@@ -103,25 +111,59 @@ fn link_made(
         inode,
         moment,
     };
-    let told = link(alloc, held, parent, name, object)?;
-    Ok(Ok(told))
+    match child_at(held, directory, name) {
+        Some(_) => Ok(Err(Status::Exists)),
+        None => link_new(alloc, held, parent, name, object),
+    }
 }
 
-/// The node that gets a name: STALE where there is none, INVAL for a directory.
-fn object_linked(held: &LogicalHeld<Files>, fileid: Fileid) -> Result<Node, Status>
-    ensures there { IfOk result (λ object. get held.now.own.inodes.inodes fileid.0
-        ≡ Some (inode_value object.inode)) }
-    ensures fileid { IfOk result (λ object. object.fileid.0 ≡ fileid.0) }
-    ensures file { IfOk result (λ object. parent_in (kind_value object.inode.kind) ≡ None) }
+/// The inode of the node that gets a name: STALE where there is none, INVAL for a directory.
+fn object_linked(held: &LogicalHeld<Files>, fileid: Fileid) -> Result<Inode, Status>
+    ensures told { (run : values.Inode → LogicalAnswer)
+        → on_inode (get held.now.own.inodes.inodes fileid.0) (logical_before held.now)
+        (λ inode. unless_directory inode.kind (logical_before held.now) (run inode))
+        ≡ come_to (logical_before held.now) run result }
+    ensures there { IfOk result (λ inode.
+        get held.now.own.inodes.inodes fileid.0 ≡ Some (inode_value inode)) }
+    ensures file { IfOk result (λ inode. parent_in (kind_value inode.kind) ≡ None) }
 {
     let inode = match held.own.get().inodes.get(fileid) {
         Some(inode) => inode,
         None => return Err(Status::Stale),
     };
     match inode.kind {
+        InodeKind::RegularFile { .. } => Ok(inode),
         InodeKind::Directory { .. } => Err(Status::Invalid),
-        _ => Ok(Node { fileid, inode }),
+        InodeKind::Special { .. } => Ok(inode),
     }
+}
+
+/// Gives a node a name that isn't there: MLINK where it has 65,000 names. Where memory runs out
+/// nothing has changed.
+fn link_new(
+    alloc: Global,
+    held: &mut LogicalHeld<Files>,
+    parent: Parent,
+    name: &[u8],
+    object: Node,
+) -> Result<Result<LinkResults, Status>, AllocError>
+    requires may { object.inode.names < most_links → MayBeLinked
+        (naming_in_parent parent name.now (logical_before held.old)) (node_value object) }
+    ensures told { IfOk result (λ told. answer_of (answers.MakeLink told) ≡ with_three
+        (link_by (node_value object) (naming_in_parent parent name.now (logical_before held.old))
+        None).answer) }
+    ensures set { OnOk result (logical_after held.old held.new ≡ (link_by (node_value object)
+        (naming_in_parent parent name.now (logical_before held.old)) None).set) }
+    ensures would { OnErr result (LinksOne (link_by (node_value object)
+        (naming_in_parent parent name.now (logical_before held.old)) None).answer) }
+    ensures alike { logical_alike held.old held.new }
+    ensures err { OnErr result (held.new ≡ held.old) }
+{
+    if object.inode.names >= MOST_LINKS {
+        return Ok(Err(Status::TooManyLinks));
+    }
+    let told = link(alloc, held, parent, name, object)?;
+    Ok(Ok(told))
 }
 
 /// Gives a node that isn't a directory one more name, in a directory, and tells it. Where memory
