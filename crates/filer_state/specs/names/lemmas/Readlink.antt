@@ -4,9 +4,9 @@ use Rattle.std.specs.Prelude.{IsTrue}
 use Rattle.std.specs.Option.{option_map}
 use Rattle.std.specs.FinMap.{get}
 use Rattle.nfs_model.specs.Types.{Moment, Shown, Answer, ReadlinkDone, Readlink, Success}
-use Rattle.nfs_model.specs.Types.{SpecialType, SymbolicLink, Fifo, Socket, BlockDevice, CharacterDevice}
+use Rattle.nfs_model.specs.Types.{SpecialType, SymbolicLink}
 use Rattle.nfs_model.specs.Tree.{Affinity}
-use Rattle.nfs_model.specs.Server.{SpecialNode, Node, File, Directory, Special, VolumeState}
+use Rattle.nfs_model.specs.Server.{SpecialNode, Node, Special, VolumeState}
 use Rattle.nfs_model.specs.Shown.{shown}
 use Rattle.nfs_model.specs.Locate.{Effect, Tells, on_node}
 use Rattle.nfs_model.specs.Serial.Readlink.{if_symbolic, on_symbolic, readlink}
@@ -19,7 +19,7 @@ use Rattle.filer_state.specs.state.WellFormed.{WellFormed}
 use Rattle.filer_state.specs.state.Jobs.{Replied}
 use Rattle.filer_state.specs.state.Lenses.{LogicalSet, logical_lens}
 use Rattle.filer_state.specs.state.Promises.{RightOnVolume}
-use Rattle.filer_state.specs.state.Calls.{ServesOn, WorksOn, answer_of, answer_on, volume_left}
+use Rattle.filer_state.specs.state.Calls.{ServesOn, WorksOn, answer_of, volume_left}
 use Rattle.filer_state.specs.state.Changes.{shown_kind, shown_inode}
 use Rattle.filer_state.specs.attributes.lemmas.Getting.{node-at, node-shown}
 use Rattle.filer_state.specs.names.Answers.{special_read, link_read, inode_read, readlink_answer}

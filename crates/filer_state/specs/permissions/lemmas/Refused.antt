@@ -5,10 +5,9 @@ use Rattle.std.specs.Prelude.{if◌then◌else◌}
 use Rattle.std.specs.Option.{option_map}
 use Rattle.std.specs.FinMap.{get}
 use Rattle.nfs_model.specs.Types.{Credential, Caller, Listed, Status, CreateMode, Unchecked, Guarded, Exclusive}
-use Rattle.nfs_model.specs.Types.{Kind}
 use Rattle.nfs_model.specs.Types.{Call, Setattr, Lookup, Read, Write, Create, Mkdir, Symlink, Mknod, Remove, Rmdir, Rename, Link, Readdir}
 use Rattle.nfs_model.specs.Types.{Readdirplus, Commit}
-use Rattle.nfs_model.specs.Server.{DirectoryNode, Node, File, Directory, Special}
+use Rattle.nfs_model.specs.Server.{DirectoryNode, Node, File, Directory}
 use Rattle.nfs_model.specs.Names.{find_name}
 use Rattle.nfs_model.specs.Locate.{Found, found_at, child, is_node_of}
 use Rattle.nfs_model.specs.Serial.Rights.{Protection, protection, may_read, may_write, may_search}
