@@ -22,7 +22,7 @@ OF_THIS_MACHINE = ("cp", "find", "git", "tar")
 # What has to be there, and the packages that have it.
 PROGRAMS, PACKAGES = (EMULATOR, "cpio", "dpkg-deb", *OF_THIS_MACHINE), ("qemu-system-x86", "cpio", "git")
 # How long the whole guest may take, in seconds.
-GUEST_SECONDS = 720
+GUEST_SECONDS = 900
 # What the guest's checks go by: the MiB of an image, the pieces that are written into it, the files of a tree, and how many seconds
 # a check may take. And those checks that are of any size.
 SMALL = {"image": 256, "pieces": 60, "files": 500, "limit": 300}
