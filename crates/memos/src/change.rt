@@ -227,7 +227,13 @@ impl KeptChange {
                 self.put_symbolic_link(target, set, text)
             }
             Call::MakeDevice { target, kind, set } => {
-                self.put_one(Asked::MakeDevice { kind: *kind, set: *set }, target)
+                self.put_one(
+                    Asked::MakeDevice {
+                        kind: *kind,
+                        set: *set,
+                    },
+                    target,
+                )
             }
             Call::Remove(target) => self.put_one(Asked::Remove, target),
             Call::RemoveDirectory(target) => self.put_one(Asked::RemoveDirectory, target),

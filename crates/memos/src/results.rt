@@ -158,9 +158,7 @@ impl Results {
             };
         }
     }
-}
 
-impl Results {
     /// Keeps those of a LINK.
     fn put_linked(&mut self, results: &Result<LinkResults, Status>)
         ensures { Keeps (told_of (result_of link_made 3 results.now)) (told_kept self.new) }

@@ -1,6 +1,6 @@
 //! Texts of symbolic links, kept in place.
 
-ghost use Rattle.std.specs.Prelude.{◌≡◌, ◌≤◌, length};
+ghost use Rattle.std.specs.Prelude.{◌≡◌, ◌≤◌, ◌&&◌, nat_le, length};
 ghost use Rattle.nfs_model.specs.Names.{same_name};
 ghost use Rattle.memos.specs.Kept.{text_kept};
 
@@ -23,9 +23,11 @@ impl Text {
 
     /// Whether it is this one.
     pub(crate) fn is(&self, text: &[u8]) -> bool
-        ensures { result ≡ same_name (text_kept self.now) text.now }
+        ensures { result ≡ nat_le (length text.now) 1024
+            && same_name (text_kept self.now) text.now }
     {
-        is_same_list(&self.bytes[..usize::from(self.size)], text)
+        let size = usize::from(self.size).min(self.bytes.len());
+        text.len() <= MOST_TEXT && is_same_list(&self.bytes[..size], text)
     }
 
     /// Keeps a text.

@@ -30,7 +30,8 @@ pub(crate) fn directory_at(
         None => return Err(Status::Stale),
     };
     match inode.kind {
-        InodeKind::RegularFile { .. } => Err(Status::NotDirectory),
         InodeKind::Directory { parent, .. } => Ok((inode, parent)),
+        InodeKind::RegularFile { .. } => Err(Status::NotDirectory),
+        InodeKind::Special { .. } => Err(Status::NotDirectory),
     }
 }

@@ -90,6 +90,7 @@ fn is_directory_sized(kind: InodeKind, size: Option<u64>) -> bool
     match kind {
         InodeKind::RegularFile { .. } => false,
         InodeKind::Directory { .. } => size.is_some(),
+        InodeKind::Special { .. } => size.is_some(),
     }
 }
 
@@ -112,6 +113,7 @@ pub fn attributes_now(inode: Inode, touch: Option<Moment>) -> StoredAttributes
     match inode.kind {
         InodeKind::RegularFile { .. } => inode.attributes.with_touch(touch),
         InodeKind::Directory { .. } => inode.attributes,
+        InodeKind::Special { .. } => inode.attributes,
     }
 }
 

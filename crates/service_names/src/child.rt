@@ -48,6 +48,7 @@ pub(crate) fn directory_named(
     };
     match inode.kind {
         InodeKind::RegularFile { .. } => Err(Status::NotDirectory),
+        InodeKind::Special { .. } => Err(Status::NotDirectory),
         InodeKind::Directory { .. } => match name_fault(name) {
             Some(fault) => Err(fault),
             None => Ok(inode),

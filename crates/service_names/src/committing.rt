@@ -40,6 +40,7 @@ pub fn commit(
     };
     match inode.kind {
         InodeKind::Directory { .. } => Err(Status::Invalid),
+        InodeKind::Special { .. } => Err(Status::Invalid),
         InodeKind::RegularFile { .. } => {
             let after = shown_now(held, volume, fileid, inode);
             let before = prior(after);
@@ -79,6 +80,7 @@ fn committing_fault(held: &LogicalHeld<Files>, fileid: Fileid, who: &Credential)
     let inode = held.own.get().inodes.get(fileid)?;
     match inode.kind {
         InodeKind::Directory { .. } => None,
+        InodeKind::Special { .. } => None,
         InodeKind::RegularFile { .. } => {
             let file = protection_of(&inode);
             let may = may_read(who, &file) || may_write(who, &file);

@@ -89,6 +89,7 @@ fn set_existing(
 {
     match child.inode.kind {
         InodeKind::Directory { .. } => Err(Status::Exists),
+        InodeKind::Special { .. } => Err(Status::Exists),
         InodeKind::RegularFile { .. } => {
             if sets_nothing(caller, set) {
                 return Ok(there(parent, child, latest_touch(held, child.fileid)));
@@ -155,6 +156,7 @@ fn tell_existing(
 {
     match child.inode.kind {
         InodeKind::Directory { .. } => Err(Status::Exists),
+        InodeKind::Special { .. } => Err(Status::Exists),
         InodeKind::RegularFile { verifier: kept, .. } => {
             if is_verifier(kept, verifier) {
                 return Ok(there(parent, child, latest_touch(held, child.fileid)));

@@ -118,6 +118,7 @@ fn check_searched(held: &LogicalHeld<Files>, fileid: Fileid, caller: &Caller) ->
     };
     match inode.kind {
         InodeKind::RegularFile { .. } => Err(Status::NotDirectory),
+        InodeKind::Special { .. } => Err(Status::NotDirectory),
         InodeKind::Directory { .. } => match search_fault(caller, &inode) {
             Some(fault) => Err(fault),
             None => Ok(()),
@@ -146,6 +147,7 @@ fn check_directory(held: &LogicalHeld<Files>, fileid: Fileid) -> Result<(), Stat
     };
     match inode.kind {
         InodeKind::RegularFile { .. } => Err(Status::NotDirectory),
+        InodeKind::Special { .. } => Err(Status::NotDirectory),
         InodeKind::Directory { .. } => Ok(()),
     }
 }

@@ -19,7 +19,7 @@ ghost use Rattle.service_names.specs.Shown.{HasFewLinks};
 ghost use Rattle.filer_state.specs.changes.Laws.{remove_done, rmdir_done};
 
 use crate::child::{child_at, directory_change, directory_named, is_dots, is_empty};
-use crate::dropping::{drop_file, drop_node};
+use crate::dropping::{drop_name, drop_node};
 use crate::naming::is_same_name;
 use crate::node::Node;
 use filer_state::Files;
@@ -30,7 +30,8 @@ use parcels::LogicalHeld;
 
 /// REMOVE (RFC 1813 section 3.3.12), on the parcels of a volume's names and attributes, at a
 /// moment: STALE, NOTDIR, what is wrong with the name, INVAL for `.` and `..`, NOENT, or ISDIR for
-/// a directory; else the file is gone with its name, and its blocks are dead. It needs no memory.
+/// a directory; else the name is gone, and with its last name the node; a file's blocks are dead
+/// then. It needs no memory.
 pub fn remove(
     held: &mut LogicalHeld<Files>,
     volume: VolumeNumber,
@@ -94,12 +95,12 @@ fn file_removed(
     };
     match child.inode.kind {
         InodeKind::Directory { .. } => Err(Status::IsDirectory),
-        InodeKind::RegularFile { .. } => {
+        _ => {
             let as_directory = Node {
                 fileid: directory,
                 inode,
             };
-            let left = drop_file(held, as_directory, name, child, moment);
+            let left = drop_name(held, as_directory, name, child, moment);
             Ok(directory_change(volume, as_directory, left))
         }
     }
@@ -168,6 +169,7 @@ fn drop_directory(
 {
     match child.inode.kind {
         InodeKind::RegularFile { .. } => Err(Status::NotDirectory),
+        InodeKind::Special { .. } => Err(Status::NotDirectory),
         InodeKind::Directory { .. } => {
             if !is_empty(held, child.fileid) {
                 return Err(Status::NotEmpty);

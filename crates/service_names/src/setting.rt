@@ -18,6 +18,7 @@ ghost use Rattle.service_names.specs.Promises.{SetsAttributes};
 ghost use Rattle.service_names.specs.Changing.{MayBeSet, with_value};
 
 use crate::attributes::{attributes_now, set_fault, with_attributes};
+use crate::protection::protection_of;
 use crate::showing::{prior, shown, shown_now};
 use crate::sizing::{set_inode, size_file};
 use crate::touches::{latest_touch, settle_stripes};
@@ -26,7 +27,7 @@ use filer_state::changes::setting_calls_are_right;
 use inodes::{Inode, InodeKind, StoredAttributes};
 use nfs_values::{Caller, Change, Fileid, Moment, SetAttributes, Status, VolumeNumber};
 use parcels::LogicalHeld;
-use rights::file_set_taken;
+use rights::set_checked;
 
 /// SETATTR (RFC 1813 section 3.3.2), on the parcels of a volume's names and attributes, at a
 /// moment: STALE where there is no node of the fileid, NOT_SYNC where a guard is another ctime,
@@ -91,10 +92,8 @@ pub(crate) fn set_taken(caller: &Caller, set: &SetAttributes, inode: Inode) -> S
         ≡ taken_of (caller_of caller.now) (set_of set.now) (inode_value inode) }
 {
     match inode.kind {
-        InodeKind::RegularFile { .. } => {
-            file_set_taken(caller, set, inode.attributes.ownership())
-        }
         InodeKind::Directory { .. } => *set,
+        _ => set_checked(caller, set, &protection_of(&inode)),
     }
 }
 

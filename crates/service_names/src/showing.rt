@@ -24,7 +24,7 @@ use parcels::LogicalHeld;
 const DIRECTORY_SIZE: u64 = 4_096;
 
 /// The attributes of a node of a volume (fattr3, RFC 1813 section 2.6). The stripes are asked for
-/// the latest touch of a file alone, since a directory has none.
+/// the latest touch of a file alone, since nothing else has one.
 pub fn shown_now(
     held: &LogicalHeld<Files>,
     volume: VolumeNumber,
@@ -39,6 +39,7 @@ pub fn shown_now(
     match inode.kind {
         InodeKind::RegularFile { .. } => shown(volume, fileid, inode, latest_touch(held, fileid)),
         InodeKind::Directory { .. } => shown(volume, fileid, inode, None),
+        InodeKind::Special { .. } => shown(volume, fileid, inode, None),
     }
 }
 
@@ -51,7 +52,8 @@ pub(crate) fn shown(
 ) -> Attributes
     requires few { HasFewLinks (kind_value inode.kind) }
     ensures { shown_of result ≡ shown_kind volume.0 fileid.0
-        (attributes_value inode.attributes) (kind_value inode.kind) (option_map moment_of touch) }
+        (attributes_value inode.attributes) inode.names (kind_value inode.kind)
+        (option_map moment_of touch) }
 {
     match inode.kind {
         InodeKind::RegularFile { size, filled, .. } => {
@@ -60,27 +62,37 @@ pub(crate) fn shown(
                 kind: FileKind::Regular,
                 size,
                 used: BLOCK_BYTES * u64::from(filled),
-                ..shown_empty(volume, fileid, now)
+                ..shown_empty(volume, fileid, now, inode.names)
             }
         }
         InodeKind::Directory { subdirectories, .. } => Attributes {
             kind: FileKind::Directory,
             links: 2 + subdirectories,
             size: DIRECTORY_SIZE,
-            ..shown_empty(volume, fileid, inode.attributes)
+            ..shown_empty(volume, fileid, inode.attributes, inode.names)
+        },
+        InodeKind::Special { special, size } => Attributes {
+            kind: FileKind::Special(special),
+            size: u64::from(size),
+            ..shown_empty(volume, fileid, inode.attributes, inode.names)
         },
     }
 }
 
-/// The attributes of an empty file with these (fattr3, RFC 1813 section 2.6).
-fn shown_empty(volume: VolumeNumber, fileid: Fileid, now: StoredAttributes) -> Attributes
-    ensures { shown_of result ≡ shown_kind volume.0 fileid.0 (attributes_value now)
+/// The attributes of an empty file with these and as many names (fattr3, RFC 1813 section 2.6).
+fn shown_empty(
+    volume: VolumeNumber,
+    fileid: Fileid,
+    now: StoredAttributes,
+    names: u32,
+) -> Attributes
+    ensures { shown_of result ≡ shown_kind volume.0 fileid.0 (attributes_value now) names
         (RegularFile 0 0 None) None }
 {
     Attributes {
         kind: FileKind::Regular,
         mode: u32::from(now.mode),
-        links: 1,
+        links: names,
         uid: now.uid,
         gid: now.gid,
         size: 0,

@@ -95,6 +95,7 @@ fn sized_kind(kind: InodeKind, size: u64, left: u32) -> InodeKind
             verifier,
         },
         InodeKind::Directory { .. } => kind,
+        InodeKind::Special { .. } => kind,
     }
 }
 

@@ -2,7 +2,7 @@
 
 use crate::same::same;
 use inodes::{GROUP, Inode, InodeKind, Inodes, StoredAttributes};
-use nfs_values::{Fileid, Moment, Ownership, Verifier};
+use nfs_values::{Device, Fileid, Moment, Ownership, SpecialType, Verifier};
 use std::mem;
 use std::process::Abort;
 
@@ -18,17 +18,21 @@ const OWNER: Ownership = Ownership {
     gid: 65533,
 };
 
-/// A file of one owner with this many bytes and filled blocks.
+/// What one owner made.
+const ATTRIBUTES: StoredAttributes = StoredAttributes {
+    mode: 0o644,
+    uid: 65534,
+    gid: 65534,
+    atime: MADE,
+    mtime: MADE,
+    ctime: MADE,
+};
+
+/// A file with this many bytes and filled blocks, and one name.
 fn file(size: u64, filled: u32) -> Inode {
     Inode {
-        attributes: StoredAttributes {
-            mode: 0o644,
-            uid: 65534,
-            gid: 65534,
-            atime: MADE,
-            mtime: MADE,
-            ctime: MADE,
-        },
+        attributes: ATTRIBUTES,
+        names: 1,
         kind: InodeKind::RegularFile {
             size,
             filled,
@@ -36,6 +40,33 @@ fn file(size: u64, filled: u32) -> Inode {
         },
     }
 }
+
+/// What is neither a file nor a directory, with one name.
+fn special(special: SpecialType, size: u32) -> Inode {
+    Inode {
+        attributes: ATTRIBUTES,
+        names: 1,
+        kind: InodeKind::Special { special, size },
+    }
+}
+
+/// One of each, the devices of different numbers.
+const SPECIALS: [(SpecialType, u32); 5] = [
+    (SpecialType::SymbolicLink, 1_024),
+    (SpecialType::Fifo, 0),
+    (SpecialType::Socket, 0),
+    (
+        SpecialType::BlockDevice(Device {
+            major: 8,
+            minor: u32::MAX,
+        }),
+        0,
+    ),
+    (
+        SpecialType::CharacterDevice(Device { major: 1, minor: 3 }),
+        0,
+    ),
+];
 
 /// Creates an inode where there is room for it, and tells its fileid, or else the root's.
 fn create(rt: &impl Abort, inodes: &mut Inodes, inode: Inode) -> Fileid {
@@ -149,6 +180,64 @@ fn set_where_there(rt: HostRuntime) {
     same(&rt, &inodes.get(Fileid(5)), &None);
     same(&rt, &inodes.get(Fileid(4)), &Some(file(65536, 16)));
     mem::forget(inodes);
+}
+
+#[test]
+fn of_each_kind(rt: HostRuntime) {
+    let mut inodes = three(&rt);
+    for (kind, size) in SPECIALS {
+        create(&rt, &mut inodes, special(kind, size));
+    }
+    same(&rt, &counts(&inodes), &(9, 17));
+    for (place, (kind, size)) in SPECIALS.into_iter().enumerate() {
+        let fileid = Fileid(5 + place as u64);
+        same(&rt, &inodes.get(fileid), &Some(special(kind, size)));
+    }
+    inodes.drop_node(Fileid(6));
+    same(&rt, &counts(&inodes), &(8, 17));
+    same(&rt, &inodes.get(Fileid(6)), &None);
+    mem::forget(inodes);
+}
+
+/// How many names an inode has, and its times.
+fn linked(inode: Option<Inode>) -> Option<(u32, Moment, Moment)> {
+    inode.map(|inode| (inode.names, inode.attributes.mtime, inode.attributes.ctime))
+}
+
+#[test]
+fn names(rt: HostRuntime) {
+    let (touch, moment) = (
+        Moment {
+            seconds: 9,
+            nanoseconds: 0,
+        },
+        Moment {
+            seconds: 8,
+            nanoseconds: 1,
+        },
+    );
+    let one = file(4096, 1);
+    let two = one.with_link(Some(touch), moment);
+    same(&rt, &linked(two), &Some((2, touch, moment)));
+    let two = one.with_link(None, moment).expect(&rt, "a second name");
+    same(&rt, &linked(Some(two)), &Some((2, MADE, moment)));
+    let again = two.without_link(None, touch);
+    same(&rt, &linked(again), &Some((1, MADE, touch)));
+    same(&rt, &one.without_link(None, touch), &None);
+    let most = Inode {
+        names: 65_000,
+        ..one
+    };
+    same(&rt, &most.with_link(None, moment), &None);
+    let fewer = Inode {
+        names: 64_999,
+        ..one
+    };
+    same(
+        &rt,
+        &linked(fewer.with_link(None, moment)),
+        &Some((65_000, MADE, moment)),
+    );
 }
 
 #[test]

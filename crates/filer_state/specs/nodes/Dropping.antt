@@ -1,4 +1,4 @@
--- What a node without bytes and entries comes to that loses its name, by what is under Logical (REMOVE and RMDIR, RFC 1813 sections
+-- What a node without bytes and entries comes to that loses its last name, by what is under Logical (REMOVE and RMDIR, RFC 1813 sections
 -- 3.3.12 and 3.3.13).
 use Rattle.std.specs.Prelude.{ℕ, ◌-◌, List, map, is_some, if◌then◌else◌}
 use Rattle.std.specs.FinMap.{insert, remove}
@@ -6,7 +6,7 @@ use Rattle.nfs_model.specs.Types.{Moment}
 use Rattle.nfs_model.specs.volume.Directories.{DirectoryValue, removed}
 use Rattle.nfs_model.specs.volume.Inodes.{InodeKind, Inode, InodesValue, inode_dropped, inode_set}
 use Rattle.nfs_model.specs.volume.Stripes.{card_dropped}
-use Rattle.filer_state.specs.state.Names.{DirectoryMap, parent_in}
+use Rattle.filer_state.specs.state.Names.{DirectoryMap, TextMap, parent_in, text_length_in}
 use Rattle.filer_state.specs.state.Kinds.{directory_changed}
 use Rattle.filer_state.specs.state.Lenses.{LogicalSet}
 use Rattle.filer_state.specs.nodes.Making.{directories_in}
@@ -27,7 +27,7 @@ without_subdirectories fewer kind = directory_changed (λ parent. parent) (λ su
 
 -- the inode of the directory after it: both times are the moment's
 abbrev pub directory_left : Dropping → Inode
-directory_left m = record {
+directory_left m = record m.inode {
   attributes = record m.inode.attributes { mtime = m.moment; ctime = m.moment };
   kind = without_subdirectories (directories_in m.dropped.kind) m.inode.kind;
 }
@@ -44,9 +44,17 @@ directories_left kind fileid directories = if is_some (parent_in kind) then remo
 abbrev pub entries_left : Dropping → DirectoryMap → DirectoryMap
 entries_left m directories = insert (directories_left m.dropped.kind m.fileid directories) m.directory (removed m.name m.entries)
 
--- what is under Logical after it: one inode less, with its cards, and one entry less
+-- a symbolic link's text goes with it
+abbrev pub texts_left : InodeKind → ℕ → TextMap → TextMap
+texts_left kind fileid texts = if is_some (text_length_in kind) then remove texts fileid else texts
+
+-- what is under Logical after it: one inode less, with its cards and its text, and one entry less
 abbrev pub node_dropped : Dropping → LogicalSet → LogicalSet
 node_dropped m set = record {
-  own = record set.own { inodes = inodes_left m set.own.inodes; directories = entries_left m set.own.directories };
+  own = record set.own {
+    inodes = inodes_left m set.own.inodes;
+    directories = entries_left m set.own.directories;
+    texts = texts_left m.dropped.kind m.fileid set.own.texts;
+  };
   stripes = map (card_dropped m.fileid) set.stripes;
 }

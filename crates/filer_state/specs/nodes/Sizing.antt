@@ -31,7 +31,7 @@ kind_sized size fewer kind = file_changed (λ old. size) (λ filled. filled - fe
 
 -- the inode after it
 abbrev pub inode_sized : Sizing → ℕ → Inode
-inode_sized m fewer = record { attributes = m.attributes; kind = kind_sized m.size fewer m.inode.kind }
+inode_sized m fewer = record m.inode { attributes = m.attributes; kind = kind_sized m.size fewer m.inode.kind }
 
 -- what is under Logical after it: the blocks that leave the file are dead
 abbrev pub file_sized : Sizing → LogicalSet → LogicalSet

@@ -15,3 +15,5 @@ pub mod Untied
 pub mod Hung
 pub mod Moved
 pub mod MovedNodes
+pub mod Linked
+pub mod Counted

@@ -7,7 +7,7 @@ use Rattle.nfs_model.specs.Server.{Attributes, block_size}
 use Rattle.nfs_model.specs.Shown.{effective_attributes, directory_size}
 use Rattle.nfs_model.specs.Serial.Rights.{ownership_of}
 use Rattle.nfs_model.specs.Serial.Setattr.{set_attributes}
-use Rattle.nfs_model.specs.volume.Inodes.{InodeKind, RegularFile, DirectoryKind, Inode, filled_blocks, inode_set}
+use Rattle.nfs_model.specs.volume.Inodes.{InodeKind, RegularFile, DirectoryKind, SpecialFile, Inode, filled_blocks, inode_set}
 use Rattle.nfs_model.specs.volume.Stripes.{StripeValue, touch_taken, file_card_owned}
 use Rattle.filer_state.specs.state.Protected.{kind_shown}
 use Rattle.filer_state.specs.state.Lenses.{LogicalSet}
@@ -17,22 +17,23 @@ abbrev pub attributes_now : Option Moment → Attributes → InodeKind → Attri
 attributes_now touch a (RegularFile size filled verifier) = effective_attributes touch a
 attributes_now touch a kind = a
 
--- a directory's name in its parent, its own `.` and a `..` of each subdirectory are links to it; a file has one name
-abbrev pub links_in : InodeKind → ℕ
-links_in (DirectoryKind parent subdirectories) = 2 + subdirectories
-links_in kind = 1
+-- a directory's name in its parent, its own `.` and a `..` of each subdirectory are links to it; all else has as many as it has names
+abbrev pub links_in : ℕ → InodeKind → ℕ
+links_in names (DirectoryKind parent subdirectories) = 2 + subdirectories
+links_in names kind = names
 
 -- the size that is shown: all directories show the same
 abbrev pub size_told : InodeKind → ℕ
 size_told (RegularFile size filled verifier) = size
 size_told (DirectoryKind parent subdirectories) = directory_size
+size_told (SpecialFile special size) = size
 
 -- fattr3 of a node by its inode and its latest touch
-abbrev pub shown_kind : ℕ → ℕ → Attributes → InodeKind → Option Moment → Shown
-shown_kind volume fileid a kind touch = record {
+abbrev pub shown_kind : ℕ → ℕ → Attributes → ℕ → InodeKind → Option Moment → Shown
+shown_kind volume fileid a names kind touch = record {
   kind = kind_shown kind;
   mode = a.mode;
-  links = links_in kind;
+  links = links_in names kind;
   uid = a.uid;
   gid = a.gid;
   size = size_told kind;
@@ -45,7 +46,7 @@ shown_kind volume fileid a kind touch = record {
 }
 
 abbrev pub shown_inode : ℕ → ℕ → Inode → Option Moment → Shown
-shown_inode volume fileid inode touch = shown_kind volume fileid inode.attributes inode.kind touch
+shown_inode volume fileid inode touch = shown_kind volume fileid inode.attributes inode.names inode.kind touch
 
 -- the touches of a file taken in all stripes
 abbrev pub touches_taken : ℕ → List StripeValue → List StripeValue

@@ -15,8 +15,8 @@ use Rattle.nfs_model.specs.volume.Directories.{DirectoryValue}
 use Rattle.nfs_model.specs.volume.Inodes.{InodeKind, DirectoryKind, Inode}
 use Rattle.nfs_model.specs.volume.lemmas.Maps.{get-map_values}
 use Rattle.filer_state.specs.state.Contents.{VolumeContents}
-use Rattle.filer_state.specs.state.Tree.{file_byte, file_bytes, file_filled, file_touch, directory_or_empty, node_by, node_of, volume_of}
-use Rattle.filer_state.specs.state.Names.{is_directory, directories_listed, subdirectories_of, subdirectories_in}
+use Rattle.filer_state.specs.state.Tree.{file_byte, file_bytes, file_filled, file_touch, directory_or_empty, node_by, node_of, volume_of, text_or_empty}
+use Rattle.filer_state.specs.state.Names.{is_directory, directories_listed, subdirectories_of, subdirectories_in, text_length_of}
 use Rattle.filer_state.specs.state.WellFormed.{WellFormed}
 use Rattle.filer_state.specs.state.Partition.{times_in_hand}
 use Rattle.filer_state.specs.state.Sound.{IsSound}
@@ -26,23 +26,23 @@ use Rattle.filer_state.specs.state.Promises.{RightOnVolume}
 use Rattle.filer_state.specs.state.Calls.{ServesOn, answer_of, volume_left}
 use Rattle.filer_state.specs.state.Changes.{shown_inode, getattr_answer}
 use Rattle.filer_state.specs.attributes.Laws.{getattr_call}
-use Rattle.filer_state.specs.laws.lemmas.InodeKinds.{counted-directory, shown-with}
+use Rattle.filer_state.specs.laws.lemmas.InodeKinds.{counted-directory, shown-with, text-told}
 use Rattle.filer_state.specs.laws.lemmas.Steps.{sound-later}
 
 module _ (p : VolumeContents) where
   -- the node of a fileid
-  pub node-at : (q : ℕ) → get (volume_of p).nodes q ≡ option_map (node_of p.stripes p.logical.directories q) (get p.logical.inodes.inodes q)
-  node-at q = get-map_values nat_cmp_total nat_cmp-IsAntisymmetric (node_of p.stripes p.logical.directories) p.logical.inodes.inodes q
+  pub node-at : (q : ℕ) → get (volume_of p).nodes q ≡ option_map (node_of p.stripes p.logical.directories p.logical.texts q) (get p.logical.inodes.inodes q)
+  node-at q = get-map_values nat_cmp_total nat_cmp-IsAntisymmetric (node_of p.stripes p.logical.directories p.logical.texts) p.logical.inodes.inodes q
 
   directory-node : (q : ℕ) → is_directory_node (get (volume_of p).nodes q) ≡ is_directory (get p.logical.inodes.inodes q)
   directory-node q = ap is_directory_node (node-at q) ∙ by (get p.logical.inodes.inodes q)
     where
       kind : (a : Inode) (k : InodeKind)
-          → is_directory_node (Some (node_by p.stripes (get p.logical.directories q) q a.attributes k)) ≡ is_directory (Some (record a { kind = k }))
+          → is_directory_node (Some (node_by p.stripes (get p.logical.directories q) (get p.logical.texts q) q a.attributes a.names k)) ≡ is_directory (Some (record a { kind = k }))
       kind a (DirectoryKind parent subdirectories) = refl
       kind a other = refl
 
-      by : (o : Option Inode) → is_directory_node (option_map (node_of p.stripes p.logical.directories q) o) ≡ is_directory o
+      by : (o : Option Inode) → is_directory_node (option_map (node_of p.stripes p.logical.directories p.logical.texts q) o) ≡ is_directory o
       by None = refl
       by (Some inode) = kind inode inode.kind
 
@@ -74,11 +74,13 @@ module _ (p : VolumeContents) where
 
     -- attributes by the inode
     pub node-shown : (fileid : ℕ) (inode : Inode) → get p.logical.inodes.inodes fileid ≡ Some inode
-        → shown (volume_of p) fileid (node_of p.stripes p.logical.directories fileid inode) ≡ shown_inode p.number fileid inode (file_touch p.stripes fileid)
+        → shown (volume_of p) fileid (node_of p.stripes p.logical.directories p.logical.texts fileid inode) ≡ shown_inode p.number fileid inode (file_touch p.stripes fileid)
     node-shown fileid inode there = shown-with (volume_of p) fileid (file_bytes p.stripes fileid) (file_filled p.stripes fileid)
-        (file_touch p.stripes fileid) (directory_or_empty (get p.logical.directories fileid)) inode.attributes
+        (file_touch p.stripes fileid) (directory_or_empty (get p.logical.directories fileid)) (text_or_empty (get p.logical.texts fileid)) inode.attributes
+        inode.names
         (λ size. length-map-range_with_len (file_byte p.stripes fileid) 0 size) inode.kind (well.filled fileid inode there)
         (links fileid inode there)
+        (text-told (get p.logical.texts fileid) inode.kind (well.logical.texts fileid ∙ ap text_length_of there))
 
 -- ---- calls that change nothing
 
@@ -108,7 +110,7 @@ getattr-right v fileid handle node set =
   where
     told : (p : VolumeContents) (hands : List Hand) (made : ℕ) → IsSound p hands made → (o : Option Inode) → get p.logical.inodes.inodes fileid ≡ o
         → getattr_answer p.number fileid o (file_touch p.stripes fileid)
-        ≡ answer_of 0 (on_node (option_map (node_of p.stripes p.logical.directories fileid) o)
+        ≡ answer_of 0 (on_node (option_map (node_of p.stripes p.logical.directories p.logical.texts fileid) o)
         (λ node. Tells (GetattrDone (shown (volume_of p) fileid node))))
     told p hands made sound None e = refl
     told p hands made sound (Some inode) e = ap GetattrDone (sym (node-shown p sound.well_formed fileid inode e))

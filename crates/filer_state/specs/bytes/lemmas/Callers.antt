@@ -95,13 +95,14 @@ asked-seen (Some node) ask = refl
 pub seen-owner : (p : VolumeContents) (f : ℕ) → owner_seen (get (volume_of p).nodes f) ≡ owner_at (get p.logical.inodes.inodes f)
 seen-owner p f = ap owner_seen (node-at p f) ∙ by (get p.logical.inodes.inodes f)
   where
-    kind : (a : Attributes) (k : InodeKind) → owner_seen (Some (node_by p.stripes (get p.logical.directories f) f a k)) ≡ owner_by a k
-    kind a (RegularFile size filled verifier) = refl
-    kind a other = refl
+    kind : (a : Attributes) (names : ℕ) (k : InodeKind)
+        → owner_seen (Some (node_by p.stripes (get p.logical.directories f) (get p.logical.texts f) f a names k)) ≡ owner_by a k
+    kind a names (RegularFile size filled verifier) = refl
+    kind a names other = refl
 
-    by : (o : Option Inode) → owner_seen (option_map (node_of p.stripes p.logical.directories f) o) ≡ owner_at o
+    by : (o : Option Inode) → owner_seen (option_map (node_of p.stripes p.logical.directories p.logical.texts f) o) ≡ owner_at o
     by None = refl
-    by (Some inode) = kind inode.attributes inode.kind
+    by (Some inode) = kind inode.attributes inode.names inode.kind
 
 -- and so is the card's
 pub card-owner : (card : Option Card) (inode : Option Inode) → option_map owner_shown card ≡ option_map owner_in inode → owner_on card ≡ owner_at inode

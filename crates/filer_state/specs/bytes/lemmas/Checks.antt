@@ -92,8 +92,8 @@ module _ (p : VolumeContents) (f : ℕ) (handle : List ℕ) (w : Writing) (node 
 
     node-is : get seen.nodes f ≡ Some (File file)
     node-is =
-        node-at p f ∙ ap (option_map (node_of p.stripes p.logical.directories f)) there
-        ∙ ap (λ kind. Some (node_by p.stripes (get p.logical.directories f) f inode.attributes kind)) is_file
+        node-at p f ∙ ap (option_map (node_of p.stripes p.logical.directories p.logical.texts f)) there
+        ∙ ap (λ kind. Some (node_by p.stripes (get p.logical.directories f) (get p.logical.texts f) f inode.attributes inode.names kind)) is_file
 
     as-many : (w.count == length w.written) ≡ true → min w.count most_bytes ≡ n
     as-many e =
@@ -175,12 +175,12 @@ module _ (p : VolumeContents) (f : ℕ) (handle : List ℕ) (w : Writing) (node 
           → Checked (kind_due kind p.logical.largest w)
       of-kind inode there (RegularFile size blocks verifier) is = by-checks inode there size blocks verifier is
       of-kind inode there kind is =
-          no-file (option_map (node_of p.stripes p.logical.directories f) (Some (record inode { kind = kind }))) Invalid
-          (node-at p f ∙ ap (option_map (node_of p.stripes p.logical.directories f)) there
-          ∙ ap (λ k. Some (node_by p.stripes (get p.logical.directories f) f inode.attributes k)) is)
+          no-file (option_map (node_of p.stripes p.logical.directories p.logical.texts f) (Some (record inode { kind = kind }))) Invalid
+          (node-at p f ∙ ap (option_map (node_of p.stripes p.logical.directories p.logical.texts f)) there
+          ∙ ap (λ k. Some (node_by p.stripes (get p.logical.directories f) (get p.logical.texts f) f inode.attributes inode.names k)) is)
           refl refl
 
       by : (o : Option Inode) → get p.logical.inodes.inodes f ≡ o → Checked (bytes_due o p.logical.largest w)
       by None there =
-          no-file None Stale (node-at p f ∙ ap (option_map (node_of p.stripes p.logical.directories f)) there) refl refl
+          no-file None Stale (node-at p f ∙ ap (option_map (node_of p.stripes p.logical.directories p.logical.texts f)) there) refl refl
       by (Some inode) there = of-kind inode there inode.kind refl

@@ -11,7 +11,7 @@ use Rattle.nfs_model.specs.volume.Stripes.{StripeValue}
 use Rattle.nfs_model.specs.volume.lemmas.Inodes.{inode-set-other, next-set}
 use Rattle.nfs_model.specs.volume.lemmas.Numbered.{get-insert_at, insert-twice, insert-same, same-answers}
 use Rattle.filer_state.specs.state.Contents.{VolumeContents}
-use Rattle.filer_state.specs.state.Tree.{directory_or_empty, node_with, node_of, volume_of}
+use Rattle.filer_state.specs.state.Tree.{directory_or_empty, node_with, node_of, volume_of, text_or_empty}
 use Rattle.filer_state.specs.state.Kinds.{IsFile}
 use Rattle.filer_state.specs.state.WellFormed.{WellFormed}
 use Rattle.filer_state.specs.attributes.lemmas.Getting.{node-at}
@@ -39,17 +39,17 @@ module _ (p : VolumeContents) (f : ℕ) (inode : Inode) (old_size blocks : ℕ) 
   after = refiled f next stripes p
 
   abbrev now : ℕ → Inode → Node
-  now = node_of after.stripes after.logical.directories
+  now = node_of after.stripes after.logical.directories after.logical.texts
 
   abbrev was : ℕ → Inode → Node
-  was = node_of p.stripes p.logical.directories
+  was = node_of p.stripes p.logical.directories p.logical.texts
 
   other-node : (q : ℕ) → (q == f) ≡ false → (x : Inode) → now q x ≡ was q x
   other-node q ne x = λ j. node_with
       (λ n. map (λ k. byte-other p f inode old_size blocks verifier size more stripes there is_file well small new q ne k j) (range_with_len 0 n))
       (filled-other p f inode old_size blocks verifier size more stripes there is_file well small new q ne j)
       (touch-other p f inode old_size blocks verifier size more stripes there is_file well small new q ne j)
-      (directory_or_empty (get p.logical.directories q)) x.attributes x.kind
+      (directory_or_empty (get p.logical.directories q)) (text_or_empty (get p.logical.texts q)) x.attributes x.names x.kind
 
   pub seen-alike : SeenAlike f after p
   seen-alike x = λ j. record (volume_of p) { next = next-set p.logical.inodes f next j; nodes = nodes j }

@@ -249,13 +249,14 @@ module _ (p : VolumeContents) (m : Extending) (inode : Inode) (size blocks : ℕ
 
   node-3 : get (volume_of p_3).nodes f ≡ Some node
   node-3 =
-      node-at p_3 f ∙ ap (option_map (node_of stripes_3 p.logical.directories f)) there-2
+      node-at p_3 f ∙ ap (option_map (node_of stripes_3 p.logical.directories p.logical.texts f)) there-2
       ∙ (λ j. Some (File (record {
         attributes = inode.attributes;
         bytes = bytes-3 j;
         filled = filled-3 j;
         touch = touch-3 j;
         verifier = verifier;
+        links = inode.names;
       })))
 
   -- the volume after it

@@ -57,13 +57,13 @@ module _ (p : VolumeContents) (fileid offset count : ℕ) (bytes : ℕ → List 
 
   kinds : (inode : Inode) (kind : InodeKind)
       → on_size (size_in kind) (read_told bytes offset (min count most_bytes))
-      ≡ answer_of 1 (on_file (Some (node_by p.stripes (get p.logical.directories fileid) fileid inode.attributes kind)) run)
+      ≡ answer_of 1 (on_file (Some (node_by p.stripes (get p.logical.directories fileid) (get p.logical.texts fileid) fileid inode.attributes inode.names kind)) run)
   kinds inode (RegularFile size filled verifier) = file-told (file_byte p.stripes fileid) bytes offset (min count most_bytes) same size
   kinds inode kind = refl
 
   by_inode : (o : Option Inode)
       → on_inode o (read_told bytes offset (min count most_bytes))
-      ≡ answer_of 1 (on_file (option_map (node_of p.stripes p.logical.directories fileid) o) run)
+      ≡ answer_of 1 (on_file (option_map (node_of p.stripes p.logical.directories p.logical.texts fileid) o) run)
   by_inode None = refl
   by_inode (Some inode) = kinds inode inode.kind
 

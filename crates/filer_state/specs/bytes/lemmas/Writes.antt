@@ -80,8 +80,8 @@ module _ (p : VolumeContents) (i f : ℕ) (handle : List ℕ) (w : Writing) (han
 
     node-is : get seen.nodes f ≡ Some (File file)
     node-is =
-        node-at p f ∙ ap (option_map (node_of p.stripes p.logical.directories f)) there
-        ∙ ap (λ kind. Some (node_by p.stripes (get p.logical.directories f) f inode.attributes kind)) is_file
+        node-at p f ∙ ap (option_map (node_of p.stripes p.logical.directories p.logical.texts f)) there
+        ∙ ap (λ kind. Some (node_by p.stripes (get p.logical.directories f) (get p.logical.texts f) f inode.attributes inode.names kind)) is_file
 
     -- ---- by its count
 
@@ -125,7 +125,7 @@ module _ (p : VolumeContents) (i f : ℕ) (handle : List ℕ) (w : Writing) (han
   by-card = by (get s.cards f) refl (get p.logical.inodes.inodes f) refl (fits.cards f)
     where
       none : get p.logical.inodes.inodes f ≡ None → get seen.nodes f ≡ None
-      none there = node-at p f ∙ ap (option_map (node_of p.stripes p.logical.directories f)) there
+      none there = node-at p f ∙ ap (option_map (node_of p.stripes p.logical.directories p.logical.texts f)) there
 
       of-kind : (c : Card) → get s.cards f ≡ Some c → (inode : Inode) → get p.logical.inodes.inodes f ≡ Some inode
           → (kind : InodeKind) → inode.kind ≡ kind → size_shown c ≡ size_in kind → Right (card_written p.number f w (Some c) s)
@@ -133,10 +133,10 @@ module _ (p : VolumeContents) (i f : ℕ) (handle : List ℕ) (w : Writing) (han
           let file = file-is kind size (sym same) in by-count inode there size file.0 file.1 (is ∙ file.2) touch owner card
       of-kind OfDirectory card inode there (RegularFile other blocks verifier) is same = absurd cc
       of-kind OfDirectory card inode there kind is same =
-          no-file (option_map (node_of p.stripes p.logical.directories f) (Some (record inode { kind = kind })))
+          no-file (option_map (node_of p.stripes p.logical.directories p.logical.texts f) (Some (record inode { kind = kind })))
           (Fails Invalid) (Failed Invalid 2)
-          (node-at p f ∙ ap (option_map (node_of p.stripes p.logical.directories f)) there
-          ∙ ap (λ k. Some (node_by p.stripes (get p.logical.directories f) f inode.attributes k)) is)
+          (node-at p f ∙ ap (option_map (node_of p.stripes p.logical.directories p.logical.texts f)) there
+          ∙ ap (λ k. Some (node_by p.stripes (get p.logical.directories f) (get p.logical.texts f) f inode.attributes inode.names k)) is)
           refl refl refl refl
 
       by : (c : Option Card) → get s.cards f ≡ c → (o : Option Inode) → get p.logical.inodes.inodes f ≡ o

@@ -19,7 +19,7 @@ use Rattle.nfs_model.specs.volume.Stripes.{OfFile, StripeValue, byte_at, byte_wr
 use Rattle.nfs_model.specs.volume.lemmas.Maps.{get-map_values}
 use Rattle.nfs_model.specs.volume.lemmas.Numbered.{get-insert_at, same-answers}
 use Rattle.filer_state.specs.state.Contents.{VolumeContents}
-use Rattle.filer_state.specs.state.Tree.{stripe_at, file_byte, file_bytes, file_filled, file_touch, most_file_blocks, directory_or_empty}
+use Rattle.filer_state.specs.state.Tree.{stripe_at, file_byte, file_bytes, file_filled, file_touch, most_file_blocks, directory_or_empty, text_or_empty}
 use Rattle.filer_state.specs.state.Tree.{node_with, node_by, node_of, volume_of}
 use Rattle.filer_state.specs.state.Kinds.{IsFile}
 use Rattle.filer_state.specs.state.Lenses.{stripe_lens}
@@ -39,6 +39,7 @@ file_before p f inode size verifier = record {
   filled = file_filled p.stripes f;
   touch = file_touch p.stripes f;
   verifier = verifier;
+  links = inode.names;
 }
 
 module _ (p : VolumeContents) (i f offset : ℕ) (written : List ℕ) (moment : Moment) (on : i < length p.stripes)
@@ -101,14 +102,14 @@ module _ (p : VolumeContents) (i f offset : ℕ) (written : List ℕ) (moment : 
   -- ---- nodes
 
   abbrev seen_now : ℕ → Inode → Node
-  seen_now = node_of after.stripes p.logical.directories
+  seen_now = node_of after.stripes p.logical.directories p.logical.texts
 
   abbrev seen : ℕ → Inode → Node
-  seen = node_of p.stripes p.logical.directories
+  seen = node_of p.stripes p.logical.directories p.logical.texts
 
   other-node : (q : ℕ) → (q == f) ≡ false → (inode : Inode) → seen_now q inode ≡ seen q inode
   other-node q ne inode = λ j. node_with (λ size. map (λ k. bytes-kept q ne k j) (range_with_len 0 size)) (filled-kept q j) (touch-kept q ne j)
-      (directory_or_empty (get p.logical.directories q)) inode.attributes inode.kind
+      (directory_or_empty (get p.logical.directories q)) (text_or_empty (get p.logical.texts q)) inode.attributes inode.names inode.kind
 
   module _ (inode : Inode) (there : get p.logical.inodes.inodes f ≡ Some inode) (size blocks : ℕ) (verifier : Option (List ℕ))
       (is_file : IsFile inode.kind size blocks verifier) (within : offset + length written ≤ size) where
@@ -116,12 +117,13 @@ module _ (p : VolumeContents) (i f offset : ℕ) (written : List ℕ) (moment : 
     node = File (written_file (file_before p f inode size verifier) offset written moment)
 
     this-node : seen_now f inode ≡ node
-    this-node = ap (node_by after.stripes (get p.logical.directories f) f inode.attributes) is_file ∙ (λ j. File (record {
+    this-node = ap (node_by after.stripes (get p.logical.directories f) (get p.logical.texts f) f inode.attributes inode.names) is_file ∙ (λ j. File (record {
       attributes = inode.attributes;
       bytes = bytes-now size within j;
       filled = filled-now j;
       touch = touch-now j;
       verifier = verifier;
+      links = inode.names;
     }))
 
     nodes-now : (volume_of after).nodes ≡ insert (volume_of p).nodes f node

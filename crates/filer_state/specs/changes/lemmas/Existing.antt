@@ -70,7 +70,7 @@ module _ (handle : List ℕ) (node : Affinity) (mode : CreateMode) (caller : Cal
   n = naming_seen p fileid name moment inode parent
 
   abbrev was : Node
-  was = node_of p.stripes p.logical.directories child.fileid child.inode
+  was = node_of p.stripes p.logical.directories p.logical.texts child.fileid child.inode
 
   abbrev Right : LogicalAnswer → Effect → Type 0
   Right done effect = RightAs (create_call handle node fileid name mode caller moment) p hands' (made + 1) done effect
@@ -105,7 +105,7 @@ module _ (handle : List ℕ) (node : Affinity) (mode : CreateMode) (caller : Cal
     own-stays =
         (λ j. record (shown (volume_of p) fileid (Directory n.directory)) {
           links = 2 + subdirectories-same (volume_of p).nodes child.fileid was now
-              (node-at p child.fileid ∙ ap (option_map (node_of p.stripes p.logical.directories child.fileid)) child_here.node)
+              (node-at p child.fileid ∙ ap (option_map (node_of p.stripes p.logical.directories p.logical.texts child.fileid)) child_here.node)
               (set-directory set moment was) n.directory.list j;
         })
         ∙ own-shown
@@ -144,7 +144,7 @@ module _ (handle : List ℕ) (node : Affinity) (mode : CreateMode) (caller : Cal
 
   -- the node, were it of this kind
   abbrev child_of : InodeKind → Node
-  child_of kind = node_by p.stripes (get p.logical.directories child.fileid) child.fileid child.inode.attributes kind
+  child_of kind = node_by p.stripes (get p.logical.directories child.fileid) (get p.logical.texts child.fileid) child.fileid child.inode.attributes child.inode.names kind
 
   by-size : (set : SetAttributes) (b : Bool)
       → Right (if b then there_shown h child else held (taken_of caller (over_taken caller set) child.inode))
@@ -155,7 +155,7 @@ module _ (handle : List ℕ) (node : Affinity) (mode : CreateMode) (caller : Cal
   by-size set false = upon-right (taken_of caller (over_taken caller set) child.inode)
 
   by-kind : (asked : CreateMode) (kind : InodeKind) → child.inode.kind ≡ kind → Right (create_existing h asked caller child kind)
-      (create_over n asked caller child.fileid (node_by p.stripes (get p.logical.directories child.fileid) child.fileid child.inode.attributes kind))
+      (create_over n asked caller child.fileid (node_by p.stripes (get p.logical.directories child.fileid) (get p.logical.texts child.fileid) child.fileid child.inode.attributes child.inode.names kind))
   by-kind (Guarded set) kind is = failure Exists
   by-kind (Exclusive verifier) (RegularFile size filled kept) is =
       let seen = ap child_of is in

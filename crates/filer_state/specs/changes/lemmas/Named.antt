@@ -16,7 +16,7 @@ use Rattle.nfs_model.specs.volume.Directories.{DirectoryValue, found}
 use Rattle.nfs_model.specs.volume.Inodes.{InodeKind, DirectoryKind, Inode}
 use Rattle.filer_state.specs.state.Contents.{VolumeContents}
 use Rattle.filer_state.specs.state.Tree.{directory_or_empty, node_by, node_of, volume_of}
-use Rattle.filer_state.specs.state.Names.{parent_in, is_directory, is_named, root, times_in_list}
+use Rattle.filer_state.specs.state.Names.{parent_in, is_directory, times_in_list, names_of, times_named}
 use Rattle.filer_state.specs.state.WellFormed.{WellFormed}
 use Rattle.filer_state.specs.state.Partition.{stored, times_in_hand}
 use Rattle.filer_state.specs.state.Sound.{IsSound}
@@ -143,7 +143,7 @@ module _ (p : VolumeContents) (fileid : ℕ) (name : List ℕ) (moment : Moment)
 
       kinds : (inode : Inode) → get p.logical.inodes.inodes fileid ≡ Some inode → (kind : InodeKind) → inode.kind ≡ kind
           → Right (on_kind kind (naming_held inode) run)
-          (on_directory (Some (node_by p.stripes (get p.logical.directories fileid) fileid inode.attributes kind)) asked)
+          (on_directory (Some (node_by p.stripes (get p.logical.directories fileid) (get p.logical.texts fileid) fileid inode.attributes inode.names kind)) asked)
       kinds inode there (DirectoryKind parent subs) is =
           checked (name_fault name) (run (naming_held inode)) (model (naming_seen inode parent))
           (goes inode parent (record { there = there; says = ap parent_in is; entered = entered-here well inode parent there (ap parent_in is) }))
@@ -151,7 +151,7 @@ module _ (p : VolumeContents) (fileid : ℕ) (name : List ℕ) (moment : Moment)
 
       by : (o : Option Inode) → get p.logical.inodes.inodes fileid ≡ o
           → Right (on_inode o (logical_lens.of p) (λ inode. on_kind inode.kind (naming_held inode) run))
-          (on_directory (option_map (node_of p.stripes p.logical.directories fileid) o) asked)
+          (on_directory (option_map (node_of p.stripes p.logical.directories p.logical.texts fileid) o) asked)
       by None e = failure _
       by (Some inode) e = kinds inode e inode.kind refl
 
@@ -183,9 +183,8 @@ module _ (p : VolumeContents) (well : WellFormed p) (fileid : ℕ) (name : List 
       let some = found-counted name d.list e h in
       let more = entry-at-least nat_cmp-IsAntisymmetric (λ (x : ℕ × DirectoryValue). times_in_list e.fileid x.1.list)
       p.logical.directories fileid d entered in
-      let once = well.logical.named.once e.fileid in
-      let zero : one_if (is_named p.logical.inodes.inodes e.fileid) ≡ 0 = ap (λ o. one_if (is_some o && not (e.fileid == root))) none in
-      omega (arith, some, more, once, zero)
+      let zero : times_named e.fileid p.logical.directories ≡ 0 = well.logical.named.counted e.fileid ∙ ap names_of none in
+      omega (arith, some, more, zero)
 
 -- what is known of the node under a name
 pub record IsChildHere (p : VolumeContents) (fileid : ℕ) (name : List ℕ) (child : HeldNode) : Type 0 where
@@ -196,7 +195,7 @@ pub record IsChildHere (p : VolumeContents) (fileid : ℕ) (name : List ℕ) (ch
 
 -- the node as the serial server sees it
 abbrev pub found_seen : VolumeContents → HeldNode → Found
-found_seen p c = record { fileid = c.fileid; node = node_of p.stripes p.logical.directories c.fileid c.inode }
+found_seen p c = record { fileid = c.fileid; node = node_of p.stripes p.logical.directories p.logical.texts c.fileid c.inode }
 
 module _ (p : VolumeContents) (well : WellFormed p) (fileid : ℕ) (name : List ℕ) (moment : Moment) (inode : Inode) (parent : ℕ)
     (here : IsDirectoryHere p fileid name moment inode parent) where
@@ -208,7 +207,7 @@ module _ (p : VolumeContents) (well : WellFormed p) (fileid : ℕ) (name : List 
   child-right Right absent there = by (find_name name (entries_of p.logical fileid).list) refl
     where
       at : (e : Listed) → find_name name (entries_of p.logical fileid).list ≡ Some e → (o : Option Inode) → get p.logical.inodes.inodes e.fileid ≡ o
-          → Right (node_there e.fileid o) (found_at e.fileid (option_map (node_of p.stripes p.logical.directories e.fileid) o))
+          → Right (node_there e.fileid o) (found_at e.fileid (option_map (node_of p.stripes p.logical.directories p.logical.texts e.fileid) o))
       at e h None none = absurd (entry-there p well fileid name (entries_of p.logical fileid) here.entered e h none)
       at e h (Some i) some =
           there (record { fileid = e.fileid; inode = i }) (record { entry = e; found_there = h; is = refl; node = some })

@@ -1,22 +1,22 @@
 -- RENAME by what is under Logical.
-use Rattle.std.proofs.Common.{◌≡◌, ℕ, ◌+◌, ◌-◌, ◌==◌, ◌&&◌, ◌||◌, not, Bool, true, false, List, Option, Some, None, refl, sym, ap, ◌∙◌, subst}
+use Rattle.std.proofs.Common.{◌≡◌, ℕ, ◌+◌, ◌-◌, ◌==◌, ◌&&◌, ◌||◌, not, Bool, true, false, List, Option, Some, None, refl, sym, ap, ◌∙◌, subst, ne_eqb, eq-eqb}
 use Rattle.std.proofs.Common.{eq-eqb}
 use Rattle.std.specs.Prelude.{IsTrue, length, if◌then◌else◌, slice_get, is_some}
 use Rattle.std.specs.FinMap.{get}
-use Rattle.nfs_model.specs.Types.{Moment, Status, Wcc, Answer, Rename, RenameDone, Invalid, NameTooLong, Exists}
+use Rattle.nfs_model.specs.Types.{Moment, Status, Wcc, Answer, Rename, RenameDone, Invalid, NameTooLong, Exists, Listed}
 use Rattle.nfs_model.specs.Tree.{Affinity}
-use Rattle.nfs_model.specs.Names.{same_name, is_dots, name_fault}
+use Rattle.nfs_model.specs.Names.{same_name, is_dots, name_fault, find_name}
 use Rattle.nfs_model.specs.Server.{VolumeState, Server, Named, handle_of, named_read, used}
 use Rattle.nfs_model.specs.Shown.{before_of}
 use Rattle.nfs_model.specs.Parts.{Hand}
 use Rattle.nfs_model.specs.Moves.{Emptied}
-use Rattle.nfs_model.specs.Locate.{Effect, Fails, unless, Found, named_child, Located, located_in, located_by, locate}
+use Rattle.nfs_model.specs.Locate.{Effect, Fails, unless, Found, named_child, Located, located_in, located_by, locate, is_node_of, node_named}
 use Rattle.nfs_model.specs.Serial.Rename as renames
-use Rattle.nfs_model.specs.Serial.Rename.{Renaming, Climb, PastIt, ToIt, TooFar, climb_fault, may_go, with_moved, with_entry, without_entry, renamed_volume}
-use Rattle.nfs_model.specs.Serial.Rename.{rename_told, same_told, is_same_entry, rename_at, rename_in}
-use Rattle.nfs_model.specs.Serial.Starve.{takes_memory}
+use Rattle.nfs_model.specs.Serial.Rename.{Renaming, Climb, PastIt, ToIt, TooFar, climb_fault, may_go, with_moved, with_entry, without_entry, renamed_volume, met_above}
+use Rattle.nfs_model.specs.Serial.Rename.{rename_told, same_told, rename_at, rename_in}
+use Rattle.nfs_model.specs.Serial.Starve.{takes_memory, name_one, entry_in, entry_named}
 use Rattle.nfs_model.specs.volume.Inodes.{Inode}
-use Rattle.nfs_model.specs.volume.Directories.{found}
+use Rattle.nfs_model.specs.volume.Directories.{found, fileid_found}
 use Rattle.nfs_model.specs.volume.lemmas.Directories.{same-is}
 use Rattle.filer_state.specs.state.Contents.{VolumeContents}
 use Rattle.filer_state.specs.state.Tree.{node_of, volume_of}
@@ -31,16 +31,18 @@ use Rattle.filer_state.specs.laws.lemmas.Steps.{sound-later}
 use Rattle.filer_state.specs.names.Answers.{entries_of}
 use Rattle.filer_state.specs.nodes.Laws.{WeighAlike}
 use Rattle.filer_state.specs.changes.Named.{HeldNode, node_under}
-use Rattle.filer_state.specs.changes.Renaming.{HeldRenaming, fails_both, unless_both, is_one_entry, held_above, target_may_go, child_taken, child_hung}
+use Rattle.filer_state.specs.changes.Renaming.{HeldRenaming, fails_both, unless_both, held_above, target_may_go, child_taken, child_hung, is_held}
 use Rattle.filer_state.specs.changes.Renaming.{target_gone, set_renamed, held_renamed, rename_by, held_rename}
 use Rattle.filer_state.specs.changes.Laws.{IsDone, MayStarve, rename_call, rename_done}
 use Rattle.filer_state.specs.changes.lemmas.Named.{RightFor, done-right-for, naming_held, naming_seen, IsDirectoryHere, entered-here, before-shown}
 use Rattle.filer_state.specs.changes.lemmas.Named.{IsChildHere, found_seen, child-right}
 use Rattle.filer_state.specs.changes.lemmas.Setattr.{unchanged}
-use Rattle.filer_state.specs.changes.lemmas.Makes.{may-starve}
+use Rattle.filer_state.specs.changes.lemmas.Makes.{may-starve, EntrySeen, NoEntryThere, ThatEntry, entry-seen}
 use Rattle.filer_state.specs.changes.lemmas.Hanging.{q_hung, sound-hung, from-some, to-some, volume-hung, parts-hung, used-hung}
 use Rattle.filer_state.specs.changes.lemmas.Replacing.{IsFree, free-by}
 use Rattle.filer_state.specs.changes.lemmas.Told.{directory-right, directory-told, met-seen, may-go-seen, clear-of}
+use Rattle.filer_state.specs.permissions.Refusing.{are_one}
+use Rattle.std.specs.Option.{option_map}
 
 module _ (from to : List ℕ) (node : Affinity) (from_id : ℕ) (from_name : List ℕ) (to_id : ℕ) (to_name : List ℕ) (moment : Moment) where
   abbrev call : VolumeCall
@@ -139,16 +141,17 @@ module _ (from to : List ℕ) (node : Affinity) (from_id : ℕ) (from_name : Lis
 
         -- the checks, and what follows
         module _ (target : Option HeldNode) (found_target : Option Found)
-            (go : may_go (node_of p.stripes p.logical.directories child.fileid child.inode) found_target ≡ target_may_go (logical_lens.of p) child target)
-            (goes : is_one_entry h ≡ false → held_above h child.fileid child.inode.kind ≡ PastIt → target_may_go (logical_lens.of p) child target ≡ true
+            (one_node : is_node_of child.fileid found_target ≡ is_held child target)
+            (go : may_go (node_of p.stripes p.logical.directories p.logical.texts child.fileid child.inode) found_target ≡ target_may_go (logical_lens.of p) child target)
+            (goes : is_held child target ≡ false → held_above h child.fileid child.inode.kind ≡ PastIt → target_may_go (logical_lens.of p) child target ≡ true
             → Right (held_renamed h (set_renamed h child target)) (rename_told r (renamed_volume r child.fileid found_target))) where
-          abbrev seen_by : Climb → Bool → Effect
-          seen_by met may =
-              if is_same_entry r then same_told r
+          abbrev seen_by : Bool → Climb → Bool → Effect
+          seen_by one met may =
+              if one then same_told r
               else unless (climb_fault met)
               (if not may then Fails Exists else rename_told r (renamed_volume r child.fileid found_target))
 
-          passed : (a : Bool) (m : Climb) (d : Bool) → is_one_entry h ≡ a → held_above h child.fileid child.inode.kind ≡ m
+          passed : (a : Bool) (m : Climb) (d : Bool) → is_held child target ≡ a → held_above h child.fileid child.inode.kind ≡ m
               → target_may_go (logical_lens.of p) child target ≡ d
               → Right (if a then held_renamed h (logical_lens.of p)
               else unless_both (climb_fault m) (logical_lens.of p)
@@ -163,21 +166,23 @@ module _ (from to : List ℕ) (node : Affinity) (from_id : ℕ) (from_name : Lis
 
           there-right : Right (rename_by h (Some child) target) (rename_at r (Some (found_seen p child)) found_target)
           there-right =
-              subst (λ (m : Climb). Right (rename_by h (Some child) target)
-              (seen_by m (may_go (node_of p.stripes p.logical.directories child.fileid child.inode) found_target)))
+              subst (λ (a : Bool). Right (rename_by h (Some child) target) (seen_by a (met_above r child.fileid (found_seen p child).node)
+              (may_go (node_of p.stripes p.logical.directories p.logical.texts child.fileid child.inode) found_target))) (sym one_node)
+              (subst (λ (m : Climb). Right (rename_by h (Some child) target)
+              (seen_by (is_held child target) m (may_go (node_of p.stripes p.logical.directories p.logical.texts child.fileid child.inode) found_target)))
               (sym (met-seen p r h child.fileid child.inode refl refl refl refl))
-              (subst (λ (d : Bool). Right (rename_by h (Some child) target) (seen_by (held_above h child.fileid child.inode.kind) d)) (sym go)
-              (passed (is_one_entry h) (held_above h child.fileid child.inode.kind) (target_may_go (logical_lens.of p) child target) refl refl refl))
+              (subst (λ (d : Bool). Right (rename_by h (Some child) target) (seen_by (is_held child target) (held_above h child.fileid child.inode.kind) d)) (sym go)
+              (passed (is_held child target) (held_above h child.fileid child.inode.kind) (target_may_go (logical_lens.of p) child target) refl refl refl)))
 
         -- by whether there is a target
         target-right : Right (rename_by h (Some child) (node_under h.to)) (rename_at r (Some (found_seen p child)) (named_child r.to))
         target-right = child-right p sound.well_formed to_id to_name moment ti tp here_to
             (λ (o : Option HeldNode) (x : Option Found). Right (rename_by h (Some child) o) (rename_at r (Some (found_seen p child)) x))
-            (λ absent. there-right None None refl (λ one met may. moved-right (logical_lens.of p) None (free-none absent met)))
-            (λ target upon. there-right (Some target) (Some (found_seen p target)) (may-go-seen p child target)
+            (λ absent. there-right None None refl refl (λ one met may. moved-right (logical_lens.of p) None (free-none absent met)))
+            (λ target upon. there-right (Some target) (Some (found_seen p target)) refl (may-go-seen p child target)
             (λ one met may. moved-right (target_gone h.to (Some target)) (Some (found_seen p target))
             (free-by p hands made sound from_id from_name to_id to_name moment fi fp here_from ti tp here_to child under target upon one
-            (clear met) target.inode.kind refl may)))
+            (clear met) may)))
 
       child-there : Right (rename_by h (node_under h.from) (node_under h.to)) (rename_at r (named_child r.from) (named_child r.to))
       child-there = child-right p sound.well_formed from_id from_name moment fi fp here_from
@@ -222,6 +227,18 @@ located-named volumes (Some named) l is = by (slice_get volumes named.volume) is
         let same : record { named = named; volume = volume } ≡ l = cc in
         ap (λ (x : Located). Some x.named) same
 
+-- and its volume is there
+located-volume : (volumes : List VolumeState) (o : Option Named) (l : Located) → located_by volumes o ≡ Some l
+    → slice_get volumes l.named.volume ≡ Some l.volume
+located-volume volumes None l is = absurd cc
+located-volume volumes (Some named) l is = by (slice_get volumes named.volume) refl is
+  where
+    by : (v : Option VolumeState) → slice_get volumes named.volume ≡ v → located_in named v ≡ Some l → slice_get volumes l.named.volume ≡ Some l.volume
+    by None e at = absurd cc
+    by (Some volume) e at =
+        let same : record { named = named; volume = volume } ≡ l = cc in
+        ap (λ (x : Located). slice_get volumes x.named.volume) (sym same) ∙ e ∙ ap (λ (x : Located). Some x.volume) same
+
 handle-read : (volumes : ℕ) (bytes : List ℕ) (named : Named) → handle_of volumes bytes ≡ Some named → named_read bytes ≡ named
 handle-read volumes bytes named is = by _ is
   where
@@ -232,27 +249,63 @@ handle-read volumes bytes named is = by _ is
 pub rename-starves : (v from_id to_id volumes : ℕ) (from from_name to to_name : List ℕ) (node : Affinity) (moment : Moment) (s : LogicalSet)
     (from_change to_change : Wcc)
     → handle_of volumes to ≡ Some (record { volume = v; fileid = to_id })
-    → ((from_id == to_id) && same_name from_name to_name) ≡ false
+    → are_one (fileid_found (entries_of s.own from_id) from_name) (fileid_found (entries_of s.own to_id) to_name) ≡ false
     → (rename_done v from_id from_name to_id to_name moment s).answer ≡ RenameDone from_change to_change
     → MayStarve v (rename_call from to node from_id from_name to_id to_name moment) s
 rename-starves v from_id to_id volumes from from_name to to_name node moment s from_change to_change names two is =
     may-starve 4 v (rename_call from to node from_id from_name to_id to_name moment) (λ w t. rename_done w from_id from_name to_id to_name moment t)
     (λ p. refl) refl
     (λ p hands count sound. (renames-right from to node from_id from_name to_id to_name moment p hands hands count sound (λ n. refl)).0) s
-    (λ p server has at. subst (λ (a : Answer). IsTrue (takes_memory server (Rename from from_name to to_name) a)) (sym is)
-    (by p server at (same_name from to) refl))
+    (λ p server numbered has at. subst (λ (a : Answer). IsTrue (takes_memory server (Rename from from_name to to_name) a)) (sym is)
+    (ap (λ (b : Bool). not b) (apart p server numbered has at)))
   where
-    by : (p : VolumeContents) (server : Server)
+    -- of names whose entries are these, or which have none as the serial server sees them
+    apart-by : (seen_from seen_to from_entry to_entry : Option Listed) → EntrySeen seen_from from_entry → EntrySeen seen_to to_entry
+        → are_one (option_map (λ (e : Listed). e.fileid) from_entry) (option_map (λ (e : Listed). e.fileid) to_entry) ≡ false
+        → name_one seen_from seen_to ≡ false
+    apart-by seen_from seen_to from_entry to_entry (NoEntryThere none) other differ = ap (λ (o : Option Listed). name_one o seen_to) none
+    apart-by seen_from seen_to from_entry to_entry (ThatEntry a) (NoEntryThere none) differ =
+        ap (λ (o : Option Listed). name_one seen_from o) none ∙ nothing seen_from
+      where
+        nothing : (o : Option Listed) → name_one o None ≡ false
+        nothing None = refl
+        nothing (Some e) = refl
+    apart-by seen_from seen_to from_entry to_entry (ThatEntry a) (ThatEntry b) differ = (λ j. name_one (a j) (b j)) ∙ both from_entry to_entry differ
+      where
+        both : (x y : Option Listed) → are_one (option_map (λ (e : Listed). e.fileid) x) (option_map (λ (e : Listed). e.fileid) y) ≡ false
+            → name_one x y ≡ false
+        both None y h = refl
+        both (Some x) None h = refl
+        both (Some x) (Some y) h = ne_eqb x.fileid y.fileid (λ (e : x.fileid ≡ y.fileid).
+            let t : (y.fileid == x.fileid) ≡ true = eq-eqb y.fileid x.fileid (sym e) in cc)
+
+    -- the other name is of the same volume, if its handle is good there
+    located-to : (p : VolumeContents) (server : Server) → p.number ≡ v
         → locate server from ≡ Some (record { named = record { volume = p.number; fileid = from_id }; volume = volume_of p })
-        → (b : Bool) → same_name from to ≡ b → not (b && same_name from_name to_name) ≡ true
-    by p server at false e = refl
-    by p server at true e =
-        let first = handle-read (length server.volumes) from _
-        (located-named server.volumes (handle_of (length server.volumes) from) _ at) in
-        let second = handle-read volumes to _ names in
-        let same : from_id ≡ to_id =
-        ap (λ (n : Named). n.fileid) (sym first) ∙ ap (λ (bytes : List ℕ). (named_read bytes).fileid) (same-is from to e)
-        ∙ ap (λ (n : Named). n.fileid) second in
-        let other : same_name from_name to_name ≡ false =
-        sym (ap (λ (b : Bool). b && same_name from_name to_name) (eq-eqb from_id to_id same)) ∙ two in
-        ap (λ (b : Bool). not b) other
+        → EntrySeen (entry_in (node_named (locate server to)) to_name) (find_name to_name (entries_of p.logical to_id).list)
+    located-to p server numbered at = by (handle_of (length server.volumes) to) refl
+      where
+        volume-there : slice_get server.volumes p.number ≡ Some (volume_of p)
+        volume-there = located-volume server.volumes (handle_of (length server.volumes) from) _ at
+
+        by : (o : Option Named) → handle_of (length server.volumes) to ≡ o
+            → EntrySeen (entry_in (node_named (located_by server.volumes o)) to_name) (find_name to_name (entries_of p.logical to_id).list)
+        by None e = NoEntryThere refl
+        by (Some named) e =
+            let same : named ≡ record { volume = v; fileid = to_id } = sym (handle-read (length server.volumes) to named e) ∙ handle-read volumes to _ names in
+            subst (λ (n : Named). EntrySeen (entry_in (node_named (located_by server.volumes (Some n))) to_name) (find_name to_name (entries_of p.logical to_id).list))
+            (sym same)
+            (subst (λ (o : Option VolumeState). EntrySeen (entry_in (node_named (located_in (record { volume = v; fileid = to_id }) o)) to_name)
+            (find_name to_name (entries_of p.logical to_id).list))
+            (sym (ap (slice_get server.volumes) (sym numbered) ∙ volume-there)) (entry-seen p to_id to_name))
+
+    apart : (p : VolumeContents) (server : Server) → p.number ≡ v → logical_lens.of p ≡ s
+        → locate server from ≡ Some (record { named = record { volume = p.number; fileid = from_id }; volume = volume_of p })
+        → name_one (entry_named server from from_name) (entry_named server to to_name) ≡ false
+    apart p server numbered has at =
+        apart-by (entry_named server from from_name) (entry_named server to to_name)
+        (find_name from_name (entries_of p.logical from_id).list) (find_name to_name (entries_of p.logical to_id).list)
+        (subst (λ (o : Option Located). EntrySeen (entry_in (node_named o) from_name) (find_name from_name (entries_of p.logical from_id).list)) (sym at)
+        (entry-seen p from_id from_name))
+        (located-to p server numbered at)
+        (ap (λ (t : LogicalSet). are_one (fileid_found (entries_of t.own from_id) from_name) (fileid_found (entries_of t.own to_id) to_name)) has ∙ two)

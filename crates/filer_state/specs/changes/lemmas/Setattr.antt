@@ -40,10 +40,10 @@ unchanged p = emptied-none (parts_of p) (parts_of p) (used (volume_of p) - used 
 
 module _ (caller : Caller) (set : SetAttributes) where
   -- by what a node is, and by what its inode is of
-  pub taken-is : (p : VolumeContents) (f : ℕ) (a : Attributes) (kind : InodeKind)
-      → set_taken caller set (node_by p.stripes (get p.logical.directories f) f a kind) ≡ taken_by caller set a kind
-  taken-is p f a (DirectoryKind parent subdirectories) = refl
-  taken-is p f a kind = refl
+  pub taken-is : (p : VolumeContents) (f : ℕ) (a : Attributes) (names : ℕ) (kind : InodeKind)
+      → set_taken caller set (node_by p.stripes (get p.logical.directories f) (get p.logical.texts f) f a names kind) ≡ taken_by caller set a kind
+  taken-is p f a names (DirectoryKind parent subdirectories) = refl
+  taken-is p f a names kind = refl
 
   -- the mode isn't looked at
   fault-taken : (guard : Option Moment) (largest : ℕ) (touch : Option Moment) (a : Attributes) (kind : InodeKind)
@@ -69,7 +69,7 @@ module _ (f : ℕ) (handle : List ℕ) (node : Affinity) (set : SetAttributes) (
     Right done effect = RightAs call p hands' (made + 1) done effect
 
     abbrev was : Inode → Node
-    was inode = node_of p.stripes p.logical.directories f inode
+    was inode = node_of p.stripes p.logical.directories p.logical.texts f inode
 
     -- what is asked of a node, and of an inode
     abbrev asked : Node → Effect
@@ -125,7 +125,7 @@ module _ (f : ℕ) (handle : List ℕ) (node : Affinity) (set : SetAttributes) (
           (same_fault ∙ sym (fault-is p f set old guard))
           (subst (λ (t : SetAttributes). Right (unless_fault fault (logical_lens.of p) (node_replaced p.number f old (logical_lens.of p) new))
           (unless fault (replaced (volume_of p) f (was old) (set_node t moment (was old)))))
-          (sym (taken-is caller set p f old.attributes old.kind)) (checked fault refl)))
+          (sym (taken-is caller set p f old.attributes old.names old.kind)) (checked fault refl)))
 
     by-inode : Right (held_setattr p.number f set guard caller moment (logical_lens.of p)) (call.run (volume_of p))
     by-inode =
@@ -133,7 +133,7 @@ module _ (f : ℕ) (handle : List ℕ) (node : Affinity) (set : SetAttributes) (
         (by (get p.logical.inodes.inodes f) refl)
       where
         by : (o : Option Inode) → get p.logical.inodes.inodes f ≡ o
-            → Right (on_inode o (logical_lens.of p) held) (on_node (option_map (node_of p.stripes p.logical.directories f) o) asked)
+            → Right (on_inode o (logical_lens.of p) held) (on_node (option_map (node_of p.stripes p.logical.directories p.logical.texts f) o) asked)
         by None e = failure _
         by (Some old) e = at-inode old e
 

@@ -1,7 +1,8 @@
 -- What follows of an inode's kind from what it has, a size or a parent, and what stays where its numbers change. Lemmas of nodes and of
 -- calls go by these, and not by each kind.
-use Rattle.std.proofs.Common.{◌≡◌, ℕ, ◌+◌, ◌*◌, true, List, length, Option, Some, None, refl, sym, ap, ◌∙◌}
-use Rattle.std.specs.Prelude.{is_some}
+use Rattle.std.proofs.Common.{◌≡◌, ℕ, ◌+◌, ◌*◌, ◌==◌, Bool, true, false, List, length, Option, Some, None, refl, sym, ap, ◌∙◌}
+use Rattle.std.proofs.lemmas.Bool.{eqb-true}
+use Rattle.std.specs.Prelude.{is_some, if◌then◌else◌}
 use Rattle.std.specs.Option.{option_map}
 use Rattle.std.specs.Ordering.{nat_cmp}
 use Rattle.std.specs.FinSet.{FinSet}
@@ -11,10 +12,10 @@ use Rattle.nfs_model.specs.Server.{Attributes, Directory, VolumeState, block_siz
 use Rattle.nfs_model.specs.Shown.{effective_attributes, shown, subdirectories}
 use Rattle.nfs_model.specs.Serial.Rights.{ownership_of}
 use Rattle.nfs_model.specs.volume.Directories.{DirectoryValue}
-use Rattle.nfs_model.specs.volume.Inodes.{InodeKind, RegularFile, DirectoryKind, filled_blocks}
+use Rattle.nfs_model.specs.volume.Inodes.{InodeKind, RegularFile, DirectoryKind, SpecialFile, filled_blocks}
 use Rattle.nfs_model.specs.volume.Stripes.{StripeValue}
-use Rattle.filer_state.specs.state.Tree.{directory_or_empty, node_with, node_by}
-use Rattle.filer_state.specs.state.Names.{size_in, parent_in, subdirectories_in}
+use Rattle.filer_state.specs.state.Tree.{directory_or_empty, text_or_empty, node_with, node_by}
+use Rattle.filer_state.specs.state.Names.{size_in, parent_in, subdirectories_in, text_length_in}
 use Rattle.filer_state.specs.state.Kinds.{directory_changed}
 use Rattle.filer_state.specs.state.WellFormed.{owner_by}
 use Rattle.filer_state.specs.state.Changes.{attributes_now, shown_kind}
@@ -33,11 +34,12 @@ file-is (RegularFile own filled verifier) size says =
 file-is kind size says = absurd cc
 
 -- a directory is seen as one, with these entries
-pub directory-seen : (stripes : List StripeValue) (o : Option DirectoryValue) (q : ℕ) (a : Attributes) (k : InodeKind) (parent : ℕ)
+pub directory-seen : (stripes : List StripeValue) (o : Option DirectoryValue) (t : Option (List ℕ)) (q : ℕ) (a : Attributes) (names : ℕ)
+    (k : InodeKind) (parent : ℕ)
     → parent_in k ≡ Some parent
-    → node_by stripes o q a k
+    → node_by stripes o t q a names k
     ≡ Directory (record { attributes = a; parent = parent; next = (directory_or_empty o).next; list = (directory_or_empty o).list })
-directory-seen stripes o q a k parent says = ap (node_by stripes o q a) (directory-is k parent says).1
+directory-seen stripes o t q a names k parent says = ap (node_by stripes o t q a names) (directory-is k parent says).1
 
 -- it has no touch
 pub directory-untouched : (touch : Option Moment) (a : Attributes) (k : InodeKind) (parent : ℕ) → parent_in k ≡ Some parent → attributes_now touch a k ≡ a
@@ -50,15 +52,37 @@ counted-directory kind n says = absurd cc
 
 -- ---- as it is shown
 
+-- the length of a special node's text; nothing else has one
+abbrev pub text_size : InodeKind → ℕ
+text_size (SpecialFile special size) = size
+text_size kind = 0
+
+-- a text of the length that the inode says
+pub text-told : (o : Option (List ℕ)) (k : InodeKind) → option_map length o ≡ text_length_in k → length (text_or_empty o) ≡ text_size k
+text-told o (SpecialFile special size) says = by o (size == 0) refl says
+  where
+    by : (o : Option (List ℕ)) (b : Bool) → (size == 0) ≡ b → option_map length o ≡ (if b then None else Some size)
+        → length (text_or_empty o) ≡ size
+    by None true e says = sym (eqb-true size 0 e)
+    by None false e says = absurd cc
+    by (Some text) true e says = absurd cc
+    by (Some text) false e says = cc
+text-told None (RegularFile size filled verifier) says = refl
+text-told None (DirectoryKind parent subs) says = refl
+text-told (Some text) (RegularFile size filled verifier) says = absurd cc
+text-told (Some text) (DirectoryKind parent subs) says = absurd cc
+
 -- a node is shown by its inode, where its bytes are as many as its size, its blocks and subdirectories as many as its inode counts
 pub shown-with : (volume : VolumeState) (q : ℕ) (bytes : ℕ → List ℕ) (blocks : FinSet nat_cmp) (touch : Option Moment) (d : DirectoryValue)
-    (a : Attributes) → ((size : ℕ) → length (bytes size) ≡ size) → (k : InodeKind) → filled_blocks k ≡ sets.len blocks
-    → ((subs : ℕ) → subdirectories_in k ≡ Some subs → subdirectories volume.nodes d.list ≡ subs)
-    → shown volume q (node_with bytes blocks touch d a k) ≡ shown_kind volume.number q a k touch
-shown-with volume q bytes blocks touch d a long (RegularFile size filled verifier) many counted =
-    λ j. record (shown_kind volume.number q a (RegularFile size filled verifier) touch) { size = long size j; used = block_size * sym many j }
-shown-with volume q bytes blocks touch d a long (DirectoryKind parent subs) many counted =
-    λ j. record (shown_kind volume.number q a (DirectoryKind parent subs) touch) { links = 2 + counted subs refl j }
+    (text : List ℕ) (a : Attributes) (names : ℕ) → ((size : ℕ) → length (bytes size) ≡ size) → (k : InodeKind) → filled_blocks k ≡ sets.len blocks
+    → ((subs : ℕ) → subdirectories_in k ≡ Some subs → subdirectories volume.nodes d.list ≡ subs) → length text ≡ text_size k
+    → shown volume q (node_with bytes blocks touch d text a names k) ≡ shown_kind volume.number q a names k touch
+shown-with volume q bytes blocks touch d text a names long (RegularFile size filled verifier) many counted told =
+    λ j. record (shown_kind volume.number q a names (RegularFile size filled verifier) touch) { size = long size j; used = block_size * sym many j }
+shown-with volume q bytes blocks touch d text a names long (DirectoryKind parent subs) many counted told =
+    λ j. record (shown_kind volume.number q a names (DirectoryKind parent subs) touch) { links = 2 + counted subs refl j }
+shown-with volume q bytes blocks touch d text a names long (SpecialFile special size) many counted told =
+    λ j. record (shown_kind volume.number q a names (SpecialFile special size) touch) { size = told j }
 
 -- ---- the owner
 
@@ -84,6 +108,10 @@ module _ (f g : ℕ → ℕ) where
   pub blocks-changed : (k : InodeKind) → filled_blocks (directory_changed f g k) ≡ filled_blocks k
   blocks-changed (DirectoryKind parent subs) = refl
   blocks-changed kind = refl
+
+  pub text-changed : (k : InodeKind) → text_length_in (directory_changed f g k) ≡ text_length_in k
+  text-changed (DirectoryKind parent subs) = refl
+  text-changed kind = refl
 
   pub parent-changed : (k : InodeKind) → parent_in (directory_changed f g k) ≡ option_map f (parent_in k)
   parent-changed (DirectoryKind parent subs) = refl

@@ -47,12 +47,12 @@ module _ (p : VolumeContents) (fileid : ℕ) where
     where
       kinds : (inode : Inode) → get p.logical.inodes.inodes fileid ≡ Some inode → (kind : InodeKind) → inode.kind ≡ kind
           → on_parent (parent_in kind) (answer inode)
-          ≡ answer_of 1 (on_directory (Some (node_by p.stripes (get p.logical.directories fileid) fileid inode.attributes kind)) run)
+          ≡ answer_of 1 (on_directory (Some (node_by p.stripes (get p.logical.directories fileid) (get p.logical.texts fileid) fileid inode.attributes inode.names kind)) run)
       kinds inode there (DirectoryKind parent subs) is = tells inode parent there (ap parent_in is)
       kinds inode there kind is = refl
 
       by : (o : Option Inode) → get p.logical.inodes.inodes fileid ≡ o
-          → on_directory_inode o answer ≡ answer_of 1 (on_directory (option_map (node_of p.stripes p.logical.directories fileid) o) run)
+          → on_directory_inode o answer ≡ answer_of 1 (on_directory (option_map (node_of p.stripes p.logical.directories p.logical.texts fileid) o) run)
       by None e = refl
       by (Some inode) e = kinds inode e inode.kind refl
 
@@ -62,6 +62,6 @@ module _ (p : VolumeContents) (fileid : ℕ) where
       → shown (volume_of p) fileid (Directory (directory_at inode parent)) ≡ shown_inode p.number fileid inode None
   directory-kind-shown well inode parent there says =
       sym (ap (shown (volume_of p) fileid)
-      (directory-seen p.stripes (get p.logical.directories fileid) fileid inode.attributes inode.kind parent says))
+      (directory-seen p.stripes (get p.logical.directories fileid) (get p.logical.texts fileid) fileid inode.attributes inode.names inode.kind parent says))
       ∙ node-shown p well fileid inode there
       ∙ same-shown p.number fileid inode parent says (file_touch p.stripes fileid)

@@ -94,16 +94,16 @@ module _ (p : VolumeContents) (well : WellFormed p) (fileid : ℕ) where
 
   kinds : (inode : Inode) → get p.logical.inodes.inodes fileid ≡ Some inode → (kind : InodeKind) → inode.kind ≡ kind
       → file_committed (shown_inode p.number fileid inode (file_touch p.stripes fileid)) p.logical.verifier kind
-      ≡ answer_of 2 (on_file (Some (node_by p.stripes (get p.logical.directories fileid) fileid inode.attributes kind)) commits)
+      ≡ answer_of 2 (on_file (Some (node_by p.stripes (get p.logical.directories fileid) (get p.logical.texts fileid) fileid inode.attributes inode.names kind)) commits)
   kinds inode there (RegularFile size filled verifier) is =
       let shows = sym (node-shown p well fileid inode there)
-      ∙ ap (λ (k : InodeKind). shown (volume_of p) fileid (node_by p.stripes (get p.logical.directories fileid) fileid inode.attributes k)) is in
+      ∙ ap (λ (k : InodeKind). shown (volume_of p) fileid (node_by p.stripes (get p.logical.directories fileid) (get p.logical.texts fileid) fileid inode.attributes inode.names k)) is in
       ap (λ (s : Shown). CommitDone (record { before = before_of s; after = s }) p.logical.verifier) shows
   kinds inode there kind is = refl
 
   by_inode : (o : Option Inode) → get p.logical.inodes.inodes fileid ≡ o
       → inode_committed p.number fileid (logical_lens.of p) o
-      ≡ answer_of 2 (on_file (option_map (node_of p.stripes p.logical.directories fileid) o) commits)
+      ≡ answer_of 2 (on_file (option_map (node_of p.stripes p.logical.directories p.logical.texts fileid) o) commits)
   by_inode None e = refl
   by_inode (Some inode) e = kinds inode e inode.kind refl
 

@@ -60,7 +60,7 @@ module _ (p : VolumeContents) (well : WellFormed p) where
     where
       by : (o : Option Inode) → get p.logical.inodes.inodes fileid ≡ o
           → option_map (λ inode. shown_inode p.number fileid inode (file_touch p.stripes fileid)) o
-          ≡ shown_at (volume_of p) fileid (option_map (node_of p.stripes p.logical.directories fileid) o)
+          ≡ shown_at (volume_of p) fileid (option_map (node_of p.stripes p.logical.directories p.logical.texts fileid) o)
       by None there = refl
       by (Some inode) there = ap Some (sym (node-shown p well fileid inode there))
 

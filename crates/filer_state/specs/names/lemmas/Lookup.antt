@@ -55,10 +55,10 @@ module _ (p : VolumeContents) (well : WellFormed p) (fileid : ℕ) (name : List 
       where
         by : (o : Option Inode) → get p.logical.inodes.inodes q ≡ o
             → object_told p.number (logical_lens.of p) own q o
-            ≡ answer_of 1 (lookup_told here (found_at q (option_map (node_of p.stripes p.logical.directories q) o)))
+            ≡ answer_of 1 (lookup_told here (found_at q (option_map (node_of p.stripes p.logical.directories p.logical.texts q) o)))
         by None e = refl
         by (Some i) e =
-            let object : shown_inode p.number q i (file_touch p.stripes q) ≡ shown (volume_of p) q (node_of p.stripes p.logical.directories q i) =
+            let object : shown_inode p.number q i (file_touch p.stripes q) ≡ shown (volume_of p) q (node_of p.stripes p.logical.directories p.logical.texts q i) =
             sym (node-shown p well q i e) in
             let directory = sym (directory-kind-shown p fileid well inode parent there says) in
             λ j. LookupDone (handle_bytes p.number q) (object j) (directory j)

@@ -19,8 +19,8 @@ use Rattle.nfs_model.specs.volume.lemmas.Inodes.{len-set, len-dropped, dropped-i
 use Rattle.nfs_model.specs.volume.lemmas.Maps.{get-map_values}
 use Rattle.nfs_model.specs.volume.lemmas.Numbered.{get-insert_at, get-remove_at, same-answers, itself}
 use Rattle.filer_state.specs.state.Contents.{VolumeContents}
-use Rattle.filer_state.specs.state.Tree.{stripe_at, file_filled, file_touch, later, directory_or_empty, node_with, node_of, volume_of}
-use Rattle.filer_state.specs.state.Names.{size_in, size_of, parent_in}
+use Rattle.filer_state.specs.state.Tree.{stripe_at, file_filled, file_touch, later, directory_or_empty, node_with, node_of, volume_of, text_or_empty}
+use Rattle.filer_state.specs.state.Names.{size_in, size_of, parent_in, text_length_in, text_length_of}
 use Rattle.filer_state.specs.state.WellFormed.{StripeFits, WellFormed, size_shown, owner_shown, owner_in}
 use Rattle.filer_state.specs.state.Partition.{times_in_stripe, times_in_hand}
 use Rattle.filer_state.specs.state.Sound.{IsSound}
@@ -31,6 +31,7 @@ use Rattle.filer_state.specs.nodes.Making.{directories_in}
 use Rattle.filer_state.specs.nodes.Dropping.{Dropping, directory_left, inodes_left, node_dropped}
 use Rattle.filer_state.specs.nodes.lemmas.Unnamed as names
 use Rattle.filer_state.specs.nodes.Laws.{LosesName, IsEmptyKind, seen_directory}
+use Rattle.filer_state.specs.laws.lemmas.InodeKinds as kinds
 
 -- ---- cards
 
@@ -157,6 +158,34 @@ module _ (p : VolumeContents) (m : Dropping) (well : WellFormed p) (may : LosesN
       (λ x e. let none = at-dropped in absurd cc)
       (λ q ne left x e. well.filled q x (sym (at-other q ne left) ∙ e) ∙ sym (ap sets.len (stay q)))
 
+  -- the texts: one less, if it is a symbolic link
+  none-there : (o : Option (List ℕ)) → option_map length o ≡ None → o ≡ None
+  none-there None e = refl
+  none-there (Some text) e = absurd cc
+
+  dropped-text : get after.logical.texts m.fileid ≡ None
+  dropped-text = by (text_length_in m.dropped.kind) refl
+    where
+      by : (o : Option ℕ) → text_length_in m.dropped.kind ≡ o
+          → get (if is_some o then remove p.logical.texts m.fileid else p.logical.texts) m.fileid ≡ None
+      by None e = none-there (get p.logical.texts m.fileid) (well.logical.texts m.fileid ∙ ap text_length_of may.node ∙ e)
+      by (Some size) e =
+          get-remove_at p.logical.texts m.fileid m.fileid ∙ ap (λ (b : Bool). if b then None else get p.logical.texts m.fileid) (itself m.fileid)
+
+  other-text : (q : ℕ) → (q == m.fileid) ≡ false → get after.logical.texts q ≡ get p.logical.texts q
+  other-text q left = by (is_some (text_length_in m.dropped.kind))
+    where
+      by : (b : Bool) → get (if b then remove p.logical.texts m.fileid else p.logical.texts) q ≡ get p.logical.texts q
+      by false = refl
+      by true = get-remove_at p.logical.texts m.fileid q ∙ ap (λ (b : Bool). if b then None else get p.logical.texts q) left
+
+  texts-left : (q : ℕ) → option_map length (get after.logical.texts q) ≡ text_length_of (inode_of new q)
+  texts-left = by-fileid (λ q. option_map length (get after.logical.texts q) ≡ text_length_of (inode_of new q))
+      (ap (option_map length) (other-text m.directory apart) ∙ well.logical.texts m.directory ∙ ap text_length_of may.there
+      ∙ sym (ap text_length_of at-directory ∙ kinds.text-changed (λ parent. parent) (λ n. n - directories_in m.dropped.kind) m.inode.kind))
+      (ap (option_map length) dropped-text ∙ sym (ap text_length_of at-dropped))
+      (λ q ne left. ap (option_map length) (other-text q left) ∙ well.logical.texts q ∙ sym (ap text_length_of (at-other q ne left)))
+
   dropped-lawful : inode_of (inode_dropped m.fileid old) m.directory ≡ Some m.inode
   dropped-lawful = names.there-still old p.logical.directories m may
 
@@ -182,6 +211,7 @@ module _ (p : VolumeContents) (m : Dropping) (well : WellFormed p) (may : LosesN
           (subst (λ o. IfSome (size_of o) (λ size. size ≤ p.logical.largest)) (sym at-dropped) tt)
           (λ q ne left. subst (λ o. IfSome o (λ size. size ≤ p.logical.largest)) (sym (size-same q left)) (well.logical.sizes q));
       named = names.named-left old p.logical.directories m may well.logical.named;
+      texts = texts-left;
     };
     as_many = length-map p.stripes (card_dropped m.fileid) ∙ well.as_many;
     stripes = λ i less.
@@ -236,23 +266,24 @@ module _ (p : VolumeContents) (m : Dropping) (well : WellFormed p) (may : LosesN
     abbrev pub directory_then : Node
     directory_then = Directory (dropped_name (seen_directory m.inode m.entries parent) m.name m.moment)
 
-    is-directory : node_of after.stripes after.logical.directories m.directory (directory_left m) ≡ directory_then
+    is-directory : node_of after.stripes after.logical.directories after.logical.texts m.directory (directory_left m) ≡ directory_then
     is-directory =
-        directory-seen after.stripes (get after.logical.directories m.directory) m.directory (directory_left m).attributes (directory_left m).kind parent
+        directory-seen after.stripes (get after.logical.directories m.directory) (get after.logical.texts m.directory) m.directory
+        (directory_left m).attributes m.inode.names (directory_left m).kind parent
         (names.parent-kept (directories_in m.dropped.kind) m.inode.kind ∙ says)
         ∙ ap (λ (o : Option DirectoryValue). Directory (seen_directory (directory_left m) (directory_or_empty o) parent)) directory-entries
 
     other-node : (q : ℕ) → (q == m.directory) ≡ false → (q == m.fileid) ≡ false → (inode : Inode)
-        → node_of after.stripes after.logical.directories q inode ≡ node_of p.stripes p.logical.directories q inode
+        → node_of after.stripes after.logical.directories after.logical.texts q inode ≡ node_of p.stripes p.logical.directories p.logical.texts q inode
     other-node q ne left inode = λ j. node_with
         (λ size. blocks.bytes-stay (card_dropped m.fileid) (λ s. refl) p.stripes q size j) (stay q j) (touch-other m.fileid p.stripes q left j)
-        (directory_or_empty (other-entries q ne left j)) inode.attributes inode.kind
+        (directory_or_empty (other-entries q ne left j)) (text_or_empty (other-text q left j)) inode.attributes inode.names inode.kind
 
     abbrev now : ℕ → Inode → Node
-    now = node_of after.stripes after.logical.directories
+    now = node_of after.stripes after.logical.directories after.logical.texts
 
     abbrev was : ℕ → Inode → Node
-    was = node_of p.stripes p.logical.directories
+    was = node_of p.stripes p.logical.directories p.logical.texts
 
     abbrev answer : ℕ → Option Node
     answer q = if q == m.directory then Some directory_then else if q == m.fileid then None else get (volume_of p).nodes q

@@ -22,17 +22,18 @@ use Rattle.nfs_model.specs.volume.lemmas.Inodes.{next-absent, len-set, len-creat
 use Rattle.nfs_model.specs.volume.lemmas.Numbered.{get-insert_at, itself}
 use Rattle.filer_state.specs.state.Contents.{VolumeContents}
 use Rattle.filer_state.specs.state.Tree.{stripe_at, home_stripe, file_filled, file_touch, later, most_file_blocks}
-use Rattle.filer_state.specs.state.Names.{DirectoryMap, size_in, size_of, parent_in, AreNamed}
+use Rattle.filer_state.specs.state.Names.{DirectoryMap, size_in, size_of, parent_in, AreNamed, text_length_of}
 use Rattle.filer_state.specs.state.WellFormed.{StripeFits, WellFormed, size_shown, owner_shown, owner_by, owner_in}
 use Rattle.filer_state.specs.state.Partition.{times_in_stripe, times_in_hand}
 use Rattle.filer_state.specs.state.Sound.{IsSound}
 use Rattle.filer_state.specs.state.Lenses.{logical_lens}
 use Rattle.filer_state.specs.laws.lemmas.InodeKinds.{owner-alike}
 use Rattle.filer_state.specs.laws.lemmas.SameBlocks as blocks
-use Rattle.filer_state.specs.nodes.Making.{Making, directories_in, directory_inode, inodes_made, entries_made, card_of_size, card_made, node_made}
+use Rattle.filer_state.specs.nodes.Making.{Making, directories_in, directory_inode, inodes_made, entries_made, card_of_size, card_made, node_made, texts_made}
 use Rattle.filer_state.specs.nodes.lemmas.Named as names
 use Rattle.filer_state.specs.nodes.lemmas.Named.{new_entries}
 use Rattle.filer_state.specs.nodes.Laws.{MayBeMade}
+use Rattle.filer_state.specs.laws.lemmas.InodeKinds as kinds
 
 -- ---- cards
 
@@ -200,19 +201,19 @@ module _ (p : VolumeContents) (m : Making) (well : WellFormed p) (may : MayBeMad
 
   directory-entries : get directories_after m.directory ≡ Some (added m.name f m.entries)
   directory-entries = names.directory-entries old p.logical.directories m well.logical.inodes may.there may.entered well.logical.named may.absent
-      p.logical.largest may.is_new
+      p.logical.largest may.one may.is_new
 
   made-entries : get directories_after f ≡ new_entries k
   made-entries = names.made-entries old p.logical.directories m well.logical.inodes may.there may.entered well.logical.named may.absent
-      p.logical.largest may.is_new
+      p.logical.largest may.one may.is_new
 
   other-entries : (q : ℕ) → (q == m.directory) ≡ false → (q == f) ≡ false → get directories_after q ≡ get p.logical.directories q
   other-entries = names.other-entries old p.logical.directories m well.logical.inodes may.there may.entered well.logical.named may.absent
-      p.logical.largest may.is_new
+      p.logical.largest may.one may.is_new
 
   named-made : AreNamed new.inodes directories_after
   named-made = names.named-made old p.logical.directories m well.logical.inodes may.there may.entered well.logical.named may.absent
-      p.logical.largest may.is_new
+      p.logical.largest may.one may.is_new
 
   nothing : inode_of old f ≡ None
   nothing = next-absent old well.logical.inodes
@@ -316,6 +317,33 @@ module _ (p : VolumeContents) (m : Making) (well : WellFormed p) (may : MayBeMad
       stay : (q : ℕ) → file_filled after.stripes q ≡ file_filled p.stripes q
       stay q = blocks.filled-stays (card_made owner k f) (blocks-same owner k f) p.stripes q
 
+  -- the texts: one more, if it is a symbolic link
+  pub made-text : get after.logical.texts f ≡ m.text
+  made-text = by m.text
+    where
+      none-there : (o : Option (List ℕ)) → option_map length o ≡ None → o ≡ None
+      none-there None e = refl
+      none-there (Some text) e = absurd cc
+
+      by : (t : Option (List ℕ)) → get (texts_made t f p.logical.texts) f ≡ t
+      by None = none-there (get p.logical.texts f) (well.logical.texts f ∙ ap text_length_of nothing)
+      by (Some text) =
+          get-insert_at p.logical.texts f text f ∙ ap (λ (b : Bool). if b then Some text else get p.logical.texts f) (itself f)
+
+  pub other-text : (q : ℕ) → (q == f) ≡ false → get after.logical.texts q ≡ get p.logical.texts q
+  other-text q older = by m.text
+    where
+      by : (t : Option (List ℕ)) → get (texts_made t f p.logical.texts) q ≡ get p.logical.texts q
+      by None = refl
+      by (Some text) = get-insert_at p.logical.texts f text q ∙ ap (λ (b : Bool). if b then Some text else get p.logical.texts q) older
+
+  texts-made : (q : ℕ) → option_map length (get after.logical.texts q) ≡ text_length_of (inode_of new q)
+  texts-made = by-fileid (λ q. option_map length (get after.logical.texts q) ≡ text_length_of (inode_of new q))
+      (ap (option_map length) (other-text m.directory apart) ∙ well.logical.texts m.directory ∙ ap text_length_of may.there
+      ∙ sym (ap text_length_of at-directory ∙ kinds.text-changed (λ parent. parent) (λ n. n + directories_in k) m.inode.kind))
+      (ap (option_map length) made-text ∙ may.text ∙ sym (ap text_length_of at-made))
+      (λ q ne older. ap (option_map length) (other-text q older) ∙ well.logical.texts q ∙ sym (ap text_length_of (at-other q ne older)))
+
   created-lawful : (inode_of (inode_created m.made old) m.directory ≡ Some m.inode)
   created-lawful = inode-created-other old m.made m.directory (apart) ∙ may.there
 
@@ -334,6 +362,7 @@ module _ (p : VolumeContents) (m : Making) (well : WellFormed p) (may : MayBeMad
           omega (arith, set, more, few);
       sizes = λ q. size-after q (q == f) refl;
       named = named-made;
+      texts = texts-made;
     };
     as_many = length-map p.stripes (card_made owner k f) ∙ well.as_many;
     stripes = λ i less.

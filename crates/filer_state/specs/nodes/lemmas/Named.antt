@@ -1,5 +1,5 @@
 -- Inodes and names after a node is made under a name: they are lawful again.
-use Rattle.std.proofs.Common.{◌≡◌, ℕ, zero, suc, ◌+◌, ◌==◌, ◌&&◌, not, Bool, true, false, List, Option, Some, None}
+use Rattle.std.proofs.Common.{◌≡◌, ℕ, zero, suc, ◌+◌, ◌==◌, not, Bool, true, false, List, Option, Some, None}
 use Rattle.std.proofs.Common.{refl, sym, ap, ◌∙◌, subst, arith, eq-eqb, ne_eqb}
 use Rattle.std.specs.Prelude.{if◌then◌else◌, is_some, IfSome}
 use Rattle.std.proofs.lemmas.Bool.{eqb-true}
@@ -13,8 +13,8 @@ use Rattle.nfs_model.specs.volume.Directories.{DirectoryValue, empty_directory, 
 use Rattle.nfs_model.specs.volume.Inodes.{InodeKind, InodesValue, IsInodes, filled_blocks, inode_of, inode_created}
 use Rattle.nfs_model.specs.volume.lemmas.Inodes.{next-absent, inode-created-there, inode-created-other, inode-set-there, inode-set-other}
 use Rattle.nfs_model.specs.volume.lemmas.Numbered.{get-insert_at, itself}
-use Rattle.filer_state.specs.state.Names.{root, DirectoryMap, size_in, size_of, parent_in, parent_directory, subdirectories_in, subdirectories_of, is_directory}
-use Rattle.filer_state.specs.state.Names.{parent_or, times_in_list, times_named, is_named, directories_listed, directory_above, DirectoryFits, AreNamed}
+use Rattle.filer_state.specs.state.Names.{root, DirectoryMap, size_in, size_of, parent_in, parent_directory, subdirectories_in, subdirectories_of, is_directory, names_of}
+use Rattle.filer_state.specs.state.Names.{parent_or, times_in_list, times_named, directories_listed, directory_above, DirectoryFits, AreNamed}
 use Rattle.filer_state.specs.laws.lemmas.InodeKinds as kinds
 use Rattle.filer_state.specs.laws.lemmas.Mapped.{entry-at-least}
 use Rattle.filer_state.specs.nodes.Making.{Making, directories_in, with_subdirectories, directory_inode, inodes_made, directories_made, entries_made}
@@ -89,15 +89,15 @@ module _ (old : InodesValue) (directories : DirectoryMap) (m : Making) (lawful :
           ∙ sym (ap (λ (k : ℕ). size_of (inode_of old k)) is ∙ ap size_of there)
       by false e = ap size_of (at-other q e older)
 
-  some-same : (q : ℕ) → (q == old.next) ≡ false → is_some (inode_of new q) ≡ is_some (inode_of old q)
-  some-same q older = by (q == m.directory) refl
+  names-same : (q : ℕ) → (q == old.next) ≡ false → names_of (inode_of new q) ≡ names_of (inode_of old q)
+  names-same q older = by (q == m.directory) refl
     where
-      by : (b : Bool) → (q == m.directory) ≡ b → is_some (inode_of new q) ≡ is_some (inode_of old q)
+      by : (b : Bool) → (q == m.directory) ≡ b → names_of (inode_of new q) ≡ names_of (inode_of old q)
       by true e =
           let is : q ≡ m.directory = eqb-true q m.directory e in
-          ap (λ (k : ℕ). is_some (inode_of new k)) is ∙ ap (λ o. is_some o) at-directory
-          ∙ sym (ap (λ (k : ℕ). is_some (inode_of old k)) is ∙ ap (λ o. is_some o) there)
-      by false e = ap (λ o. is_some o) (at-other q e older)
+          ap (λ (k : ℕ). names_of (inode_of new k)) is ∙ ap names_of at-directory
+          ∙ sym (ap (λ (k : ℕ). names_of (inode_of old k)) is ∙ ap names_of there)
+      by false e = ap names_of (at-other q e older)
 
   -- ---- lists in which the new fileid doesn't stand
 
@@ -114,12 +114,12 @@ module _ (old : InodesValue) (directories : DirectoryMap) (m : Making) (lawful :
   directories_after = entries_made m old.next directories
 
   module _ (entered : get directories m.directory ≡ Some m.entries) (named : AreNamed old.inodes directories) (absent : found m.entries m.name ≡ None)
-      (largest : ℕ) (is_new : IsNewIn m.directory largest m.made.kind) where
+      (largest : ℕ) (one : m.made.names ≡ 1) (is_new : IsNewIn m.directory largest m.made.kind) where
     nothing : inode_of old old.next ≡ None
     nothing = next-absent old lawful
 
     none-named : times_named old.next directories ≡ 0
-    none-named = named.once old.next ∙ ap (λ o. one_if (is_some o && not (old.next == root))) nothing
+    none-named = named.counted old.next ∙ ap names_of nothing
 
     none-listed : (q : ℕ) (d : DirectoryValue) → get directories q ≡ Some d → times_in_list old.next d.list ≡ 0
     none-listed q d e =
@@ -269,25 +269,33 @@ module _ (old : InodesValue) (directories : DirectoryMap) (m : Making) (lawful :
         let is = named.root_there in
         absurd cc)
 
-    once-after : (q : ℕ) → times_named q directories_after ≡ one_if (is_named new.inodes q)
-    once-after q = by (q == old.next) refl
+    counted-after : (q : ℕ) → times_named q directories_after ≡ names_of (inode_of new q)
+    counted-after q = by (q == old.next) refl
       where
-        by : (b : Bool) → (q == old.next) ≡ b → times_named q directories_after ≡ one_if (is_named new.inodes q)
+        by : (b : Bool) → (q == old.next) ≡ b → times_named q directories_after ≡ names_of (inode_of new q)
         by true e =
             let is : q ≡ old.next = eqb-true q old.next e in
             let here : times_named old.next directories_after ≡ 1 =
-            (let after = times-after old.next in let none = none-named in let one : one_if (old.next == old.next) ≡ 1 = ap one_if (itself old.next) in
-            omega (arith, after, none, one)) in
-            let now : one_if (is_named new.inodes old.next) ≡ 1 =
-            ap (λ o. one_if (is_some o && not (old.next == root))) at-made ∙ ap (λ (t : Bool). one_if (not t)) made-is-no-root in
-            subst (λ (k : ℕ). times_named k directories_after ≡ one_if (is_named new.inodes k)) (sym is) (here ∙ sym now)
+            (let after = times-after old.next in let none = none-named in let once : one_if (old.next == old.next) ≡ 1 = ap one_if (itself old.next) in
+            omega (arith, after, none, once)) in
+            ap (λ (k : ℕ). times_named k directories_after) is ∙ here ∙ sym (ap (λ (k : ℕ). names_of (inode_of new k)) is ∙ ap names_of at-made ∙ one)
         by false e =
             let other : one_if (old.next == q) ≡ 0 =
             ap one_if (ne_eqb old.next q (λ (h : old.next ≡ q). let t : (q == old.next) ≡ true = eq-eqb q old.next (sym h) in cc)) in
             let after = times-after q in
-            let was = named.once q in
-            let same : one_if (is_named new.inodes q) ≡ one_if (is_named old.inodes q) = ap (λ (b : Bool). one_if (b && not (q == root))) (some-same q e) in
+            let was = named.counted q in
+            let same = names-same q e in
             omega (arith, other, after, was, same)
+
+    once-after : (q : ℕ) → is_directory (inode_of new q) ≡ true → names_of (inode_of new q) ≡ one_if (not (q == root))
+    once-after q h = by (q == old.next) refl
+      where
+        by : (b : Bool) → (q == old.next) ≡ b → names_of (inode_of new q) ≡ one_if (not (q == root))
+        by true e =
+            let is : q ≡ old.next = eqb-true q old.next e in
+            ap (λ (k : ℕ). names_of (inode_of new k)) is ∙ ap names_of at-made ∙ one
+            ∙ sym (ap (λ (k : ℕ). one_if (not (k == root))) is ∙ ap (λ (t : Bool). one_if (not t)) made-is-no-root)
+        by false e = names-same q e ∙ named.once q (sym (ap (λ o. is_some o) (parent-same q e)) ∙ h)
 
     -- ---- the way to the root
 
@@ -339,6 +347,7 @@ module _ (old : InodesValue) (directories : DirectoryMap) (m : Making) (lawful :
           (λ d e. let same : entries_then ≡ d = (let was = directory-entries in cc) in subst (DirectoryFits new.inodes m.directory) same fits-directory)
           (λ d e. fits-made (parent_in m.made.kind) refl d (sym made-entries ∙ e))
           (λ q ne older d e. fits-other q d ne older (sym (other-entries q ne older) ∙ e));
+      counted = counted-after;
       once = once-after;
       rooted = by-fileid (λ q. is_directory (inode_of new q) ≡ true → (steps : ℕ) × (directory_above new.inodes steps q ≡ root))
           (λ h. rooted-directory)

@@ -1,5 +1,5 @@
 -- Inodes and names after a node without entries loses its name: they are lawful again.
-use Rattle.std.proofs.Common.{◌≡◌, ◌≢◌, ℕ, zero, suc, ◌+◌, ◌-◌, ◌<◌, ◌==◌, ◌&&◌, not, Bool, true, false, List, [], ◌∷◌, Option, Some, None}
+use Rattle.std.proofs.Common.{◌≡◌, ◌≢◌, ℕ, zero, suc, ◌+◌, ◌-◌, ◌<◌, ◌==◌, not, Bool, true, false, List, [], ◌∷◌, Option, Some, None}
 use Rattle.std.proofs.Common.{refl, sym, ap, ◌∙◌, subst, arith, eq-eqb, ne_eqb}
 use Rattle.std.specs.Prelude.{if◌then◌else◌, is_some, IfSome}
 use Rattle.std.proofs.lemmas.Bool.{eqb-true}
@@ -15,8 +15,8 @@ use Rattle.nfs_model.specs.volume.Directories.{DirectoryValue, removed, found}
 use Rattle.nfs_model.specs.volume.Inodes.{InodeKind, Inode, InodesValue, filled_blocks, inode_of, inode_dropped}
 use Rattle.nfs_model.specs.volume.lemmas.Inodes.{inode-dropped-there, inode-dropped-other, inode-set-there, inode-set-other}
 use Rattle.nfs_model.specs.volume.lemmas.Numbered.{get-insert_at, get-remove_at, itself}
-use Rattle.filer_state.specs.state.Names.{root, DirectoryMap, size_in, size_of, parent_in, parent_directory, subdirectories_in, subdirectories_of, is_directory}
-use Rattle.filer_state.specs.state.Names.{parent_or, times_in_list, times_named, is_named, directories_listed, directory_above, DirectoryFits, AreNamed}
+use Rattle.filer_state.specs.state.Names.{root, DirectoryMap, size_in, size_of, parent_in, parent_directory, subdirectories_in, subdirectories_of, is_directory, names_of}
+use Rattle.filer_state.specs.state.Names.{parent_or, times_in_list, times_named, directories_listed, directory_above, DirectoryFits, AreNamed}
 use Rattle.filer_state.specs.laws.lemmas.InodeKinds as kinds
 use Rattle.filer_state.specs.laws.lemmas.Mapped.{entry-at-least, total-entries}
 use Rattle.filer_state.specs.nodes.Making.{directories_in}
@@ -98,15 +98,15 @@ module _ (old : InodesValue) (directories : DirectoryMap) (m : Dropping) (may : 
           ∙ sym (ap (λ (k : ℕ). size_of (inode_of old k)) is ∙ ap size_of may.there)
       by false e = ap size_of (at-other q e left)
 
-  some-same : (q : ℕ) → (q == m.fileid) ≡ false → is_some (inode_of new q) ≡ is_some (inode_of old q)
-  some-same q left = by (q == m.directory) refl
+  names-same : (q : ℕ) → (q == m.fileid) ≡ false → names_of (inode_of new q) ≡ names_of (inode_of old q)
+  names-same q left = by (q == m.directory) refl
     where
-      by : (b : Bool) → (q == m.directory) ≡ b → is_some (inode_of new q) ≡ is_some (inode_of old q)
+      by : (b : Bool) → (q == m.directory) ≡ b → names_of (inode_of new q) ≡ names_of (inode_of old q)
       by true e =
           let is : q ≡ m.directory = eqb-true q m.directory e in
-          ap (λ (k : ℕ). is_some (inode_of new k)) is ∙ ap (λ o. is_some o) at-directory
-          ∙ sym (ap (λ (k : ℕ). is_some (inode_of old k)) is ∙ ap (λ o. is_some o) may.there)
-      by false e = ap (λ o. is_some o) (at-other q e left)
+          ap (λ (k : ℕ). names_of (inode_of new k)) is ∙ ap names_of at-directory
+          ∙ sym (ap (λ (k : ℕ). names_of (inode_of old k)) is ∙ ap names_of may.there)
+      by false e = ap names_of (at-other q e left)
 
   -- ---- lists in which the fileid doesn't stand
 
@@ -137,8 +137,8 @@ module _ (old : InodesValue) (directories : DirectoryMap) (m : Dropping) (may : 
         let same : one_if (may.entry.fileid == q) ≡ one_if (m.fileid == q) = ap (λ (x : ℕ). one_if (x == q)) may.is in
         omega (arith, all, same)
 
-    once-before : times_named m.fileid directories ≡ one_if (not (m.fileid == root))
-    once-before = named.once m.fileid ∙ ap (λ o. one_if (is_some o && not (m.fileid == root))) may.node
+    names-before : times_named m.fileid directories ≡ m.dropped.names
+    names-before = named.counted m.fileid ∙ ap names_of may.node
 
     some-listed : 0 < times_in_list m.fileid m.entries.list
     some-listed = let all = times-left m.fileid in let one : one_if (m.fileid == m.fileid) ≡ 1 = ap one_if (itself m.fileid) in omega (arith, all, one)
@@ -151,12 +151,18 @@ module _ (old : InodesValue) (directories : DirectoryMap) (m : Dropping) (may : 
         by true e =
             let some = some-listed in
             let most = entry-at-least nat_cmp-IsAntisymmetric (times_of m.fileid) directories m.directory m.entries may.entered in
-            let once : times_named m.fileid directories ≡ 0 = once-before ∙ ap (λ (t : Bool). one_if (not t)) e in
+            let once : times_named m.fileid directories ≡ 0 = ap (λ (k : ℕ). times_named k directories) (eqb-true m.fileid root e)
+            ∙ named.counted root ∙ named.once root (ap (λ o. is_some o) named.root_there) in
             absurd (omega (arith, some, most, once))
         by false e = refl
 
     once-is : times_named m.fileid directories ≡ 1
-    once-is = once-before ∙ ap (λ (t : Bool). one_if (not t)) no-root
+    once-is =
+        let some = some-listed in
+        let most = entry-at-least nat_cmp-IsAntisymmetric (times_of m.fileid) directories m.directory m.entries may.entered in
+        let before = names-before in
+        let last = may.last in
+        omega (arith, some, most, before, last)
 
     none-left : times_in_list m.fileid list_left ≡ 0
     none-left =
@@ -289,24 +295,33 @@ module _ (old : InodesValue) (directories : DirectoryMap) (m : Dropping) (may : 
         let left = times-left q in
         omega (arith, set, first, left)
 
-    once-after : (q : ℕ) → times_named q directories_after ≡ one_if (is_named new.inodes q)
-    once-after q = by (q == m.fileid) refl
+    counted-after : (q : ℕ) → times_named q directories_after ≡ names_of (inode_of new q)
+    counted-after q = by (q == m.fileid) refl
       where
-        by : (b : Bool) → (q == m.fileid) ≡ b → times_named q directories_after ≡ one_if (is_named new.inodes q)
+        by : (b : Bool) → (q == m.fileid) ≡ b → times_named q directories_after ≡ names_of (inode_of new q)
         by true e =
             let is : q ≡ m.fileid = eqb-true q m.fileid e in
             let here : times_named m.fileid directories_after ≡ 0 =
             (let after = times-after m.fileid in let once = once-is in let one : one_if (m.fileid == m.fileid) ≡ 1 = ap one_if (itself m.fileid) in
             omega (arith, after, once, one)) in
-            let now : one_if (is_named new.inodes m.fileid) ≡ 0 = ap (λ o. one_if (is_some o && not (m.fileid == root))) at-dropped in
-            subst (λ (k : ℕ). times_named k directories_after ≡ one_if (is_named new.inodes k)) (sym is) (here ∙ sym now)
+            ap (λ (k : ℕ). times_named k directories_after) is ∙ here ∙ sym (ap (λ (k : ℕ). names_of (inode_of new k)) is ∙ ap names_of at-dropped)
         by false e =
             let other : one_if (m.fileid == q) ≡ 0 =
             ap one_if (ne_eqb m.fileid q (λ (h : m.fileid ≡ q). let t : (q == m.fileid) ≡ true = eq-eqb q m.fileid (sym h) in cc)) in
             let after = times-after q in
-            let was = named.once q in
-            let same : one_if (is_named new.inodes q) ≡ one_if (is_named old.inodes q) = ap (λ (b : Bool). one_if (b && not (q == root))) (some-same q e) in
+            let was = named.counted q in
+            let same = names-same q e in
             omega (arith, other, after, was, same)
+
+    once-after : (q : ℕ) → is_directory (inode_of new q) ≡ true → names_of (inode_of new q) ≡ one_if (not (q == root))
+    once-after q h = by (q == m.fileid) refl
+      where
+        by : (b : Bool) → (q == m.fileid) ≡ b → names_of (inode_of new q) ≡ one_if (not (q == root))
+        by true e =
+            let none : is_directory (inode_of new q) ≡ false =
+            ap (λ (k : ℕ). is_directory (inode_of new k)) (eqb-true q m.fileid e) ∙ ap is_directory at-dropped in
+            absurd cc
+        by false e = names-same q e ∙ named.once q (sym (ap (λ o. is_some o) (parent-same q e)) ∙ h)
 
     -- ---- the way to the root
 
@@ -344,14 +359,10 @@ module _ (old : InodesValue) (directories : DirectoryMap) (m : Dropping) (may : 
       is-root : (q == root) ≡ true
       is-root = by (q == root) refl
         where
-          some : (o : Option Inode) → parent_directory o ≡ Some m.fileid → is_some o ≡ true
-          some None e = absurd cc
-          some (Some i) e = refl
-
           by : (b : Bool) → (q == root) ≡ b → b ≡ true
           by true is = refl
           by false is =
-              let once : times_named q directories ≡ 1 = named.once q ∙ ap (λ (t : Bool). one_if (t && not (q == root))) (some (inode_of old q) parent)
+              let once : times_named q directories ≡ 1 = named.counted q ∙ named.once q (ap (λ o. is_some o) parent)
               ∙ ap (λ (t : Bool). one_if (not t)) is in
               let never = never-named in
               absurd (omega (arith, once, never))
@@ -392,6 +403,7 @@ module _ (old : InodesValue) (directories : DirectoryMap) (m : Dropping) (may : 
           subst (DirectoryFits new.inodes m.directory) same fits-directory)
           (λ d e. let none = dropped-entries in absurd cc)
           (λ q ne left d e. fits-other q d ne left (sym (other-entries q ne left) ∙ e));
+      counted = counted-after;
       once = once-after;
       rooted = by-fileid (λ q. is_directory (inode_of new q) ≡ true → (steps : ℕ) × (directory_above new.inodes steps q ≡ root))
           (λ h. rooted-still m.directory apart (sym (named.as_directories m.directory) ∙ ap (λ o. is_some o) may.entered))
