@@ -24,8 +24,8 @@ use parcels::LogicalHeld;
 use rights::{asked_first, may_read, may_write, needs};
 
 /// COMMIT (RFC 1813 section 3.3.21), on the parcels of a volume's names and attributes: STALE, or
-/// INVAL for a directory; else the attributes of a file and the verifier of writes, all of which
-/// are stable (our profile). It takes no memory.
+/// INVAL for what is no file; else the attributes of a file and the verifier of writes, all of
+/// which are stable (our profile). It takes no memory.
 pub fn commit(
     held: &LogicalHeld<Files>,
     volume: VolumeNumber,

@@ -387,7 +387,7 @@ fn is_told(may: bool, asks_over: bool) -> bool
     may && !asks_over
 }
 
-/// What of a MKDIR is refused a checked caller.
+/// What of a new name is refused a checked caller.
 fn making_fault(
     held: &LogicalHeld<Files>,
     directory: Fileid,
@@ -403,7 +403,7 @@ fn making_fault(
     }
 }
 
-/// What of a MKDIR is refused in a directory of this protection.
+/// What of a new name is refused in a directory of this protection.
 fn made_fault(
     held: &LogicalHeld<Files>,
     fileid: Fileid,

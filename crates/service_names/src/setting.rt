@@ -31,7 +31,7 @@ use rights::set_checked;
 
 /// SETATTR (RFC 1813 section 3.3.2), on the parcels of a volume's names and attributes, at a
 /// moment: STALE where there is no node of the fileid, NOT_SYNC where a guard is another ctime,
-/// INVAL for a bad time or the size of a directory, FBIG for a size over the largest; else the
+/// INVAL for a bad time or a size of what is no file, FBIG for a size over the largest; else the
 /// node is set, and the blocks that leave a file are dead. It needs no memory.
 pub fn set_attributes(
     held: &mut LogicalHeld<Files>,
@@ -85,8 +85,8 @@ fn attributes_set(
     Ok(Change { before, after })
 }
 
-/// What a caller sets of a node: of a directory, all that is given; of a file with the mode that
-/// it may have.
+/// What a caller sets of a node: of a directory, all that is given; of anything else with the
+/// mode that it may have.
 pub(crate) fn set_taken(caller: &Caller, set: &SetAttributes, inode: Inode) -> SetAttributes
     ensures { set_of result
         ≡ taken_of (caller_of caller.now) (set_of set.now) (inode_value inode) }
