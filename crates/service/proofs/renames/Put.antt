@@ -44,9 +44,9 @@ module _ {P : Type 0} (old one two new : FilerLogical P) (b : Between) (child : 
 
   pub hung-is : (hung : Inode) (touch : Option Moment) → touch ≡ file_touch (logical_before one).stripes child.fileid
       → hung.attributes ≡ record (attributes_now touch child.inode.attributes child.inode.kind) { ctime = moment_of b.moment }
-      → hung.kind ≡ with_parent b.to.fileid.0 child.inode.kind
+      → hung.names ≡ child.inode.names → hung.kind ≡ with_parent b.to.fileid.0 child.inode.kind
       → hung ≡ node_hung (moving_of (to_of b s) child s) (file_touch s.stripes child.fileid)
-  hung-is hung touch latest attributes_is kind_is = λ j. record { attributes = held j; kind = kind_is j }
+  hung-is hung touch latest attributes_is names_is kind_is = λ j. record { attributes = held j; names = names_is j; kind = kind_is j }
     where
       held : hung.attributes
           ≡ record (attributes_now (file_touch s.stripes child.fileid) child.inode.attributes child.inode.kind) { ctime = moment_of b.moment }
