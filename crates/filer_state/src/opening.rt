@@ -29,6 +29,7 @@ use crate::files::Files;
 use crate::logical::{Logical, LogicalParcel};
 use crate::range::RangeParcel;
 use crate::stripe::StripeParcel;
+use crate::text_map::TextMap;
 use affinity::{Affinity, Layout};
 use directories::Directory;
 use inodes::Inodes;
@@ -139,6 +140,7 @@ fn opening_logical(
         most_steps: layout.steps_of(volume),
         inodes: Inodes::new(alloc, layout.root_of(volume), layout.begun_of(volume))?,
         directories,
+        texts: TextMap::new(alloc),
         stock: Stock::new(alloc),
         dead: DeadBlocks::new(alloc, layout.range_blocks_of(volume))?,
         memos: Memos::new(alloc, layout.remembered_of(volume))?,
