@@ -11,6 +11,18 @@ const MADE: Moment = Moment {
     nanoseconds: 0,
 };
 
+/// When a file was written last.
+const TOUCH: Moment = Moment {
+    seconds: 9,
+    nanoseconds: 0,
+};
+
+/// When a node got or lost a name.
+const CHANGED: Moment = Moment {
+    seconds: 8,
+    nanoseconds: 1,
+};
+
 /// The owner of the root.
 const OWNER: Ownership = Ownership {
     mode: 0o1777,
@@ -50,12 +62,13 @@ fn special(special: SpecialType, size: u32) -> Inode {
     }
 }
 
-/// One of each, the devices of different numbers.
-const SPECIALS: [(SpecialType, u32); 5] = [
-    (SpecialType::SymbolicLink, 1_024),
-    (SpecialType::Fifo, 0),
-    (SpecialType::Socket, 0),
+/// One of each after three files, the devices of different numbers.
+const SPECIALS: [(u64, SpecialType, u32); 5] = [
+    (5, SpecialType::SymbolicLink, 1_024),
+    (6, SpecialType::Fifo, 0),
+    (7, SpecialType::Socket, 0),
     (
+        8,
         SpecialType::BlockDevice(Device {
             major: 8,
             minor: u32::MAX,
@@ -63,6 +76,7 @@ const SPECIALS: [(SpecialType, u32); 5] = [
         0,
     ),
     (
+        9,
         SpecialType::CharacterDevice(Device { major: 1, minor: 3 }),
         0,
     ),
@@ -156,15 +170,11 @@ fn made_and_dropped(rt: HostRuntime) {
 #[test]
 fn settled(rt: HostRuntime) {
     let mut inodes = three(&rt);
-    let touch = Moment {
-        seconds: 9,
-        nanoseconds: 0,
-    };
-    inodes.settle(Fileid(3), Some(touch));
+    inodes.settle(Fileid(3), Some(TOUCH));
     inodes.settle(Fileid(3), None);
-    inodes.settle(Fileid(5), Some(touch));
-    let held = file(0, 0).attributes_held(Some(touch));
-    same(&rt, &(held.mtime, held.atime), &(touch, MADE));
+    inodes.settle(Fileid(5), Some(TOUCH));
+    let held = file(0, 0).attributes_held(Some(TOUCH));
+    same(&rt, &(held.mtime, held.atime), &(TOUCH, MADE));
     let shown = inodes.get(Fileid(3)).map(|inode| inode.attributes);
     same(&rt, &shown, &Some(held));
     mem::forget(inodes);
@@ -185,13 +195,14 @@ fn set_where_there(rt: HostRuntime) {
 #[test]
 fn of_each_kind(rt: HostRuntime) {
     let mut inodes = three(&rt);
-    for (kind, size) in SPECIALS {
-        create(&rt, &mut inodes, special(kind, size));
+    for (fileid, kind, size) in SPECIALS {
+        let made = create(&rt, &mut inodes, special(kind, size));
+        same(&rt, &made, &Fileid(fileid));
     }
     same(&rt, &counts(&inodes), &(9, 17));
-    for (place, (kind, size)) in SPECIALS.into_iter().enumerate() {
-        let fileid = Fileid(5 + place as u64);
-        same(&rt, &inodes.get(fileid), &Some(special(kind, size)));
+    for (fileid, kind, size) in SPECIALS {
+        let found = inodes.get(Fileid(fileid));
+        same(&rt, &found, &Some(special(kind, size)));
     }
     inodes.drop_node(Fileid(6));
     same(&rt, &counts(&inodes), &(8, 17));
@@ -206,38 +217,25 @@ fn linked(inode: Option<Inode>) -> Option<(u32, Moment, Moment)> {
 
 #[test]
 fn names(rt: HostRuntime) {
-    let (touch, moment) = (
-        Moment {
-            seconds: 9,
-            nanoseconds: 0,
-        },
-        Moment {
-            seconds: 8,
-            nanoseconds: 1,
-        },
-    );
     let one = file(4096, 1);
-    let two = one.with_link(Some(touch), moment);
-    same(&rt, &linked(two), &Some((2, touch, moment)));
-    let two = one.with_link(None, moment).expect(&rt, "a second name");
-    same(&rt, &linked(Some(two)), &Some((2, MADE, moment)));
-    let again = two.without_link(None, touch);
-    same(&rt, &linked(again), &Some((1, MADE, touch)));
-    same(&rt, &one.without_link(None, touch), &None);
-    let most = Inode {
-        names: 65_000,
-        ..one
-    };
-    same(&rt, &most.with_link(None, moment), &None);
-    let fewer = Inode {
-        names: 64_999,
-        ..one
-    };
-    same(
-        &rt,
-        &linked(fewer.with_link(None, moment)),
-        &Some((65_000, MADE, moment)),
-    );
+    let two = one.with_link(Some(TOUCH), CHANGED);
+    same(&rt, &linked(two), &Some((2, TOUCH, CHANGED)));
+    let two = one.with_link(None, CHANGED).expect(&rt, "a second name");
+    same(&rt, &linked(Some(two)), &Some((2, MADE, CHANGED)));
+    let again = two.without_link(None, TOUCH);
+    same(&rt, &linked(again), &Some((1, MADE, TOUCH)));
+    same(&rt, &one.without_link(None, TOUCH), &None);
+}
+
+#[test]
+fn as_many_names_as_a_node_has(rt: HostRuntime) {
+    let one = file(4096, 1);
+    let names = 64_999;
+    let last = Inode { names, ..one }.with_link(None, CHANGED);
+    same(&rt, &linked(last), &Some((65_000, MADE, CHANGED)));
+    let names = 65_000;
+    let none = Inode { names, ..one }.with_link(None, CHANGED);
+    same(&rt, &none, &None);
 }
 
 #[test]
