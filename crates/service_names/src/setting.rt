@@ -140,7 +140,7 @@ fn settle_node(
     settle_stripes(held, fileid, attributes.ownership());
     let changed = Inode {
         attributes,
-        kind: inode.kind,
+        ..inode
     };
     set_inode(held, fileid, changed);
     changed

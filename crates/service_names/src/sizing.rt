@@ -78,6 +78,7 @@ fn shape_file(
     let sized = Inode {
         attributes,
         kind: sized_kind(inode.kind, size, left),
+        ..inode
     };
     set_inode(held, fileid, sized);
     sized
