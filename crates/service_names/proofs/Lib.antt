@@ -26,3 +26,5 @@ mod Made
 mod Objects
 mod Mounted
 mod Refused
+mod Linked
+mod LinkRead

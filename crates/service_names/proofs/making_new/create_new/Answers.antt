@@ -1,4 +1,4 @@
-use Rattle.std.proofs.Common.{◌∙◌, ap, sym}
+use Rattle.std.proofs.Common.{◌∙◌, ap, sym, None}
 use Rattle.nfs_model.specs.Types.{SetAttributes}
 use Rattle.nfs_model.specs.Serial.Create.{asked_attributes}
 use Rattle.nfs_values.specs.Moment.{moment_of}
