@@ -1,5 +1,5 @@
 -- ACCESS, FSINFO and PATHCONF of a set under Logical, by the attributes of a node.
-use Rattle.std.proofs.Common.{◌≡◌, ℕ, false, [], Option, Some, None, Ok, Err, refl, sym, ap, ◌∙◌, subst, Result}
+use Rattle.std.proofs.Common.{◌≡◌, ℕ, false, [], Option, Some, None, Ok, Err, sym, ap, ◌∙◌, subst, Result}
 use Rattle.std.specs.Option.{option_map}
 use Rattle.nfs_model.specs.Types as model
 use Rattle.nfs_model.specs.Types.{Caller, Moment, Shown, Answer, Success, AccessDone, FsinfoDone, PathconfDone, Failed}
