@@ -25,4 +25,4 @@ returns-in_err-told-clause-would c =
     (done-makes n
     (special_inode SymbolicLink 511 set (length text) (maker_in_parent c.args.caller.now c.args.parent) (moment_of c.args.parent.moment)) (text_given text)
     (symlink_by n set text caller None)
-    (link-made n set text caller (sym c.in_default-text_fault.ensures) (sym c.in_default-mkdir_fault.ensures)))
+    (link-made n set text caller (sym c.in_default.ensures) (sym c.in_default-mkdir_fault.ensures)))
