@@ -27,6 +27,8 @@ ghost use Rattle.filer_state.specs.changes.NodesMoved.{dated_inode};
 ghost use Rattle.filer_state.specs.state.Changes.{LogicalAnswer};
 ghost use Rattle.nfs_model.specs.Serial.Links.{most_links};
 ghost use Rattle.nfs_model.specs.volume.Inodes as values;
+ghost use Rattle.nfs_model.specs.volume.Inodes.{inode_set};
+ghost use Rattle.service_names.specs.Changing.{with_inodes};
 ghost use Rattle.service_names.specs.Linking.{LinksOne, MayBeLinked};
 ghost use Rattle.service_names.specs.Making.{naming_in_parent};
 ghost use Rattle.service_names.specs.Naming.{come_to, node_value};
@@ -189,9 +191,7 @@ fn link(
     let touch = take_touches(held, object.fileid);
     let linked = counted_inode(object.inode, touch, object.inode.names + 1, parent.moment);
     let changed = dated(parent);
-    let own = held.own.get_mut();
-    own.inodes.set(parent.fileid, changed);
-    own.inodes.set(object.fileid, linked);
+    set_both(held, parent.fileid, changed, object.fileid, linked);
     let volume = parent.volume;
     let directory = Node {
         fileid: parent.fileid,
@@ -201,6 +201,23 @@ fn link(
         object: shown(volume, object.fileid, linked, None),
         directory: directory_change(volume, directory, changed),
     })
+}
+
+/// Sets the inodes of a directory and of the node that it gets a name of.
+fn set_both(
+    held: &mut LogicalHeld<Files>,
+    directory: Fileid,
+    changed: Inode,
+    fileid: Fileid,
+    linked: Inode,
+)
+    ensures own { held.new.own ≡ with_inodes (inode_set fileid.0 (inode_value linked)
+        (inode_set directory.0 (inode_value changed) held.old.own.inodes)) held.old.own }
+    ensures stripes { held.new.stripes ≡ held.old.stripes }
+{
+    let inodes = &mut held.own.get_mut().inodes;
+    inodes.set(directory, changed);
+    inodes.set(fileid, linked);
 }
 
 /// The inode of a directory that gets a name of what isn't a directory: both times are the moment's.
