@@ -1,6 +1,6 @@
 -- READLINK is right since it tells what is the serial server's.
 use Rattle.std.proofs.Common.{◌≡◌, ℕ, ◌∙◌, Bool, true, false, [], Option, Some, None, Result, Ok, Err, ap, sym, subst, refl}
-use Rattle.std.specs.Prelude.{IfOk, OnErr, not}
+use Rattle.std.specs.Prelude.{IfOk, OnErr}
 use Rattle.std.specs.FinMap.{get}
 use Rattle.std.specs.declared.alloc.AllocError.{AllocError}
 use Rattle.nfs_values.specs.Answer as values
@@ -20,10 +20,6 @@ use Rattle.filer_state.specs.changes.NameAnswers.{readlink_answer, inode_read, l
 use Rattle.filer_state.specs.changes.NameLaws.{readlink_call, ReadlinkIsRight, ReadlinkMayStarve}
 use Rattle.service_names.specs.Linking.{is_symbolic, TellsText}
 use Rattle.service_names.specs.Promises.{reading_link_outcome, ReadsLink}
-
-pub not-not : (b : Bool) → not b ≡ false → b ≡ true
-not-not true e = refl
-not-not false e = absurd cc
 
 module _ (v fileid : ℕ) (set : LogicalSet) where
   -- by what it told: a reply that is the law's, or no memory where it would tell a text

@@ -6,7 +6,8 @@ use Rattle.nfs_values.specs.Answer as values
 use Rattle.nfs_values.specs.declared.answer.Answer.TheVariants as answers
 use Rattle.nfs_values.specs.declared.answer.LinkResults.{LinkResults}
 use Rattle.nfs_values.specs.declared.status.Status.{Status}
-use Rattle.nfs_model.specs.Types.{Moment, Status, TooManyLinks}
+use Rattle.nfs_model.specs.Types.{Moment, TooManyLinks}
+use Rattle.nfs_model.specs.Types as model
 use Rattle.nfs_model.specs.Serial.Links.{most_links}
 use Rattle.nfs_model.specs.volume.Directories.{DirectoryValue, added}
 use Rattle.nfs_model.specs.volume.Inodes.{InodeKind, RegularFile, DirectoryKind, SpecialFile, Inode, inode_set}

@@ -3,7 +3,7 @@ use Rattle.std.specs.FinMap.{get}
 use Rattle.nfs_model.specs.volume.Logical.{LogicalValue}
 use Rattle.inodes.specs.Inode.{inode_value}
 use Rattle.filer_state.specs.state.Sets.{logical_before}
-use Rattle.service_names.proofs.LinkRead.{a-link, not-not}
+use Rattle.service_names.proofs.LinkRead.{a-link}
 use Rattle.service_names.proofs.Tying.{on-err}
 use Rattle.service_names.proofs.reading_link.text_told.Goals as goal
 
@@ -12,4 +12,4 @@ returns-in_err-text-clause-would c =
     on-err c.from_residual.result
     (_, _, a-link c.args.volume.0 c.args.fileid.0 (logical_before c.args.held.now) (inode_value c.in-Some.inode)
     (ap (λ (l : LogicalValue). get l.inodes.inodes c.args.fileid.0) (sym c.get-own.ensures) ∙ sym c.in-Some.ensures)
-    (sym c.is_symbolic_link.ensures ∙ not-not c.is_symbolic_link.result c.if-not-is_symbolic_link.false))
+    (sym c.is_symbolic_link.ensures ∙ c.if-not-is_symbolic_link.false))
