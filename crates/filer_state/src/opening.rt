@@ -2,7 +2,8 @@
 
 ghost use Rattle.std.specs.Prelude.{◌≡◌, ◌<◌, [], IfOk, slice_get, slice_index_or};
 ghost use Rattle.affinity.specs.Affinity.{affinity_of};
-ghost use Rattle.affinity.specs.Largest.{begun_of, inodes_of, largest_of, remembered_of, root_of, steps_of};
+ghost use Rattle.affinity.specs.Largest.{begun_of, inodes_of, largest_of};
+ghost use Rattle.affinity.specs.Largest.{remembered_of, root_of, steps_of};
 ghost use Rattle.affinity.specs.Layout.{layout_of};
 ghost use Rattle.affinity.specs.Numbers.{parents};
 ghost use Rattle.affinity.specs.Tree.{IsNode};

@@ -301,8 +301,8 @@ pub fn strangers_change_no_names()
         (node_of (server_after (opening layout verifier) (before ++ after)) volume fileid) }
 {}
 
-/// While strangers alone call, a file keeps its bytes, its mode, its owner and its group, as long as
-/// it is there: callers that are checked, are neither uid 0 nor its owner, and haven't w of it.
+/// While strangers alone call, a file keeps its bytes, its mode, its owner and its group, as long
+/// as it is there: callers that are checked, are neither uid 0 nor its owner, and haven't w of it.
 pub fn strangers_change_no_bytes()
     ensures any { (server : Server) (volume fileid : ℕ) (state : VolumeState) (file : FileNode)
         (calls : List FinishedCall)

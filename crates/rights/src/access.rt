@@ -54,8 +54,8 @@ fn changes_given(caller: &Caller, rights: Rights) -> bool
     writes_given(caller, rights) && (rights.executes || !caller.is_checked)
 }
 
-/// Whether w of what is neither a file nor a directory is given. What is written to a FIFO, a socket
-/// or a device changes nothing here, so that it is given to who may change nothing too.
+/// Whether w of what is neither a file nor a directory is given. What is written to a FIFO, a
+/// socket or a device changes nothing here, so that it is given to who may change nothing too.
 fn special_writes(caller: &Caller, special: SpecialType, rights: Rights) -> bool
     ensures { result ≡ access.special_writes (caller_of caller.now) (special_of special)
         (rights_value rights) }

@@ -220,7 +220,8 @@ fn set_both(
     inodes.set(fileid, linked);
 }
 
-/// The inode of a directory that gets a name of what isn't a directory: both times are the moment's.
+/// The inode of a directory that gets a name of what isn't a directory: both times are the
+/// moment's.
 fn dated(parent: Parent) -> Inode
     ensures { inode_value result ≡ dated_inode (moment_of parent.moment)
         (kind_value parent.inode.kind) (inode_value parent.inode) }

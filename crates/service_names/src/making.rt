@@ -37,7 +37,8 @@ ghost use Rattle.filer_state.specs.changes.NodesMade.{
 };
 ghost use Rattle.filer_state.specs.changes.Making.{held_made, making_of};
 ghost use Rattle.service_names.specs.Cards.{InFirst, DiffersByCard, HasCard, IsDropped};
-ghost use Rattle.service_names.specs.Changing.{text_given, with_directories, with_inodes, with_texts};
+ghost use Rattle.service_names.specs.Changing.{text_given, with_directories};
+ghost use Rattle.service_names.specs.Changing.{with_inodes, with_texts};
 ghost use Rattle.service_names.specs.Making.{
   MayMake,
   naming_in_parent,
@@ -155,7 +156,8 @@ fn create_inode(held: &mut LogicalHeld<Files>, made: Inode) -> Result<Created, A
 }
 
 /// Puts what a new node has beside its inode: entries, if it is a directory, its text, if it is a
-/// symbolic link, its cards, and its name. Where memory runs out some of it may be there, but not the name.
+/// symbolic link, its cards, and its name. Where memory runs out some of it may be there, but not
+/// the name.
 fn tie(
     alloc: Global,
     held: &mut LogicalHeld<Files>,

@@ -112,8 +112,8 @@ pub(crate) fn make_new(
     Ok(Ok(told))
 }
 
-/// SYMLINK of a name that isn't there: what is wrong with the text, then as MKDIR. Where memory runs
-/// out nothing has changed.
+/// SYMLINK of a name that isn't there: what is wrong with the text, then as MKDIR. Where memory
+/// runs out nothing has changed.
 pub(crate) fn make_link_new(
     alloc: Global,
     held: &mut LogicalHeld<Files>,

@@ -55,8 +55,8 @@ pub(crate) fn made_directory_inode(set: &SetAttributes, caller: &Caller, parent:
     }
 }
 
-/// The inode of a special node that a caller makes in a directory, of this mode where none is given,
-/// with a text of this length.
+/// The inode of a special node that a caller makes in a directory, of this mode where none is
+/// given, with a text of this length.
 pub(crate) fn special_inode(
     special: SpecialType,
     mode: u16,
