@@ -1,6 +1,6 @@
 //! Which calls are refused (RFC 1813 section 2.5: ACCES, PERM and ROFS).
 
-ghost use Rattle.std.specs.Prelude.{◌≡◌, ◌==◌, ◌||◌, false, not, Option};
+ghost use Rattle.std.specs.Prelude.{◌≡◌, ◌==◌, false, not, Option};
 ghost use Rattle.std.specs.Option.{option_map};
 ghost use Rattle.nfs_model.specs.Serial.Permission.{
   is_device,
@@ -9,7 +9,7 @@ ghost use Rattle.nfs_model.specs.Serial.Permission.{
   reserved,
   write_refusal,
 };
-ghost use Rattle.nfs_model.specs.Serial.Rights.{may_read, may_write, owned};
+ghost use Rattle.nfs_model.specs.Serial.Rights.{may_read, owned};
 ghost use Rattle.nfs_model.specs.Types as types;
 ghost use Rattle.nfs_model.specs.Types.{Regular};
 ghost use Rattle.nfs_values.specs.Attributes.{kind_of};
@@ -103,20 +103,6 @@ pub fn write_refusal(caller: &Caller, owner: Ownership) -> Option<Status>
 {
     let file = Protection::of_file(owner);
     refusal_of(caller, true, needs(may_write(&caller.credential, &file)))
-}
-
-/// A refusal of a COMMIT of a file (RFC 1813 section 3.3.21).
-pub fn commit_refusal(caller: &Caller, owner: Ownership) -> Option<Status>
-    ensures { option_map status_of result ≡ refusal_of (caller_of caller.now) false
-        (needs (may_read (credential_of caller.now.credential)
-        (owned Regular (ownership_of owner))
-        || may_write (credential_of caller.now.credential)
-        (owned Regular (ownership_of owner)))) }
-{
-    let who = &caller.credential;
-    let file = Protection::of_file(owner);
-    let may = may_read(who, &file) || may_write(who, &file);
-    refusal_of(caller, false, needs(may))
 }
 
 /// Whether a caller's WRITE to a file ends that it is run as its owner or its group.

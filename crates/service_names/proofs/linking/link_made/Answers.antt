@@ -48,7 +48,7 @@ returns-in-None-clause-would c =
     let v = c.args.volume.0 in
     let s = logical_before c.args.held.now in
     let moment = moment_of c.args.moment in
-    let object = record { fileid = c.args.fileid.0; inode = inode_value c.in-Ok.inode } in
+    let object : HeldNode = record { fileid = c.args.fileid.0; inode = inode_value c.in-Ok.inode } in
     let n = naming_in v c.args.directory.0 (inode_value c.in-Ok-directory_named.inode) c.args.name.now moment s in
     let same =
     c.in-Ok.ensures.told (λ (inode : values.Inode).
