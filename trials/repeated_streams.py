@@ -16,6 +16,8 @@ PLACES, OWN = 65_536, 2500
 OPTIONS = (*SMALL, "--remember", str(PLACES))
 # How many rounds of some calls a process makes on connections that are cut at random.
 ROUNDS, MOST_AT_ONCE = 60, 8
+# The most calls that a client makes itself for one stream.
+MOST_OF_A_STREAM = 500
 
 
 class Bench:
@@ -25,7 +27,11 @@ class Bench:
         self.address, self.source, service, start = task
         self.client = Client(self.address, self.source, service)
         self.first, self.used = 2 * OWN * start, 0
-        self.client.xid = self.first + OWN + PLACES - self.client.peer.getsockname()[1]
+        self.begin_xids()
+
+    def begin_xids(self):
+        """The client's own calls have the first of its places again; none of them is the same as one before."""
+        self.client.xid = self.begun = self.first + OWN + PLACES - self.client.peer.getsockname()[1]
 
     def caller(self):
         return Caller(self.address, self.source, 0)
@@ -246,6 +252,8 @@ def job(task):
 def tried(bench, streams):
     passed, failures = 0, []
     for name, way in streams:
+        if bench.client.xid > bench.begun + OWN - MOST_OF_A_STREAM:
+            bench.begin_xids()
         try:
             way()
             passed += 1

@@ -20,7 +20,6 @@ pub use making::{Maker, over_taken};
 pub use mode::{Rights, rights_of};
 pub use protection::Protection;
 pub use refusing::{
-    asked_first, clears_set_ids, device_fault, needs, read_refusal, refusal_of,
-    write_refusal,
+    asked_first, clears_set_ids, device_fault, needs, read_refusal, refusal_of, write_refusal,
 };
 pub use setting::{set_checked, set_refusal};

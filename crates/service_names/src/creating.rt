@@ -110,7 +110,9 @@ pub fn make_symbolic_link(
     ensures alike { logical_alike held.old held.new }
 {
     making_calls_are_right();
-    link_made(alloc, held, volume, directory, name, set, text, caller, moment)
+    link_made(
+        alloc, held, volume, directory, name, set, text, caller, moment,
+    )
 }
 
 /// MKNOD (RFC 1813 section 3.3.11), likewise: STALE, NOTDIR, what is wrong with the name, EXIST
@@ -136,7 +138,9 @@ pub fn make_device(
     ensures alike { logical_alike held.old held.new }
 {
     making_calls_are_right();
-    special_made(alloc, held, volume, directory, name, kind, set, caller, moment)
+    special_made(
+        alloc, held, volume, directory, name, kind, set, caller, moment,
+    )
 }
 
 /// What CREATE comes to.

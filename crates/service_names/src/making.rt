@@ -120,7 +120,16 @@ fn make_node(
     let created = create_inode(held, made)?;
     let fileid = created.fileid();
     let owner = made.attributes.ownership();
-    match tie(alloc, held, parent.fileid, name, fileid, owner, made.kind, text) {
+    match tie(
+        alloc,
+        held,
+        parent.fileid,
+        name,
+        fileid,
+        owner,
+        made.kind,
+        text,
+    ) {
         Ok(()) => {
             set_directory(held, parent, made.kind);
             Ok(created.keep())
