@@ -1,6 +1,6 @@
 //! Which calls are refused (RFC 1813 section 2.5: ACCES, PERM and ROFS).
 
-ghost use Rattle.std.specs.Prelude.{◌≡◌, ◌==◌, false, not, Option};
+ghost use Rattle.std.specs.Prelude.{◌≡◌, ◌==◌, ◌||◌, false, not, Option};
 ghost use Rattle.std.specs.Option.{option_map};
 ghost use Rattle.nfs_model.specs.Serial.Permission.{
   is_device,

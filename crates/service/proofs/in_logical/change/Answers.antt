@@ -89,11 +89,6 @@ returns-in-Rename-clause-runs c =
     (allowed_named L n (caller_of c.args.run.caller.now) (moment_of c.args.run.moment) (call_of call)) (logical_before c.args.held.now)
     (outcome_of c.rename_here.result) (logical_after c.args.held.now c.rename_here.new.held)) (sym c.in-Rename.is) (c.rename_here.ensures.runs)
 
-pub make_link_here-requires-clause-home : goal.make_link_here-requires-clause-home
-make_link_here-requires-clause-home c =
-    let L = layout_of c.args.layout.now in
-    subst (λ (call : Call). RunsThere L (call_of call) (Logical c.args.named.volume.0)) c.in-MakeLink.is c.requires.there
-
 pub returns-in-MakeLink-clause-runs : goal.returns-in-MakeLink-clause-runs
 returns-in-MakeLink-clause-runs c =
     let L = layout_of c.args.layout.now in
