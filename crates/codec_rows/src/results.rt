@@ -283,45 +283,55 @@ fn failures_on_links_leave_parts_out(rt: HostRuntime) {
     is_told(&rt, "LINK, NFS3ERR_MLINK", many, &[&[31, 0, 0, 0]]);
 }
 
-const DEVICE: Device = Device { major: 8, minor: 1 };
-
-/// Kinds, and what tells each: its ftype3, and the two words of rdev.
-const KINDS: [(&str, FileKind, u32, [u32; 2]); 7] = [
-    ("NF3REG", FileKind::Regular, 1, [0, 0]),
-    ("NF3DIR", FileKind::Directory, 2, [0, 0]),
-    (
-        "NF3BLK",
-        FileKind::Special(SpecialType::BlockDevice(DEVICE)),
-        3,
-        [8, 1],
-    ),
-    (
-        "NF3CHR",
-        FileKind::Special(SpecialType::CharacterDevice(DEVICE)),
-        4,
-        [8, 1],
-    ),
-    (
-        "NF3LNK",
-        FileKind::Special(SpecialType::SymbolicLink),
-        5,
-        [0, 0],
-    ),
-    ("NF3SOCK", FileKind::Special(SpecialType::Socket), 6, [0, 0]),
-    ("NF3FIFO", FileKind::Special(SpecialType::Fifo), 7, [0, 0]),
-];
-
 #[test]
 fn kinds_are_told(rt: HostRuntime) {
-    for (row, kind, word, device) in &KINDS {
-        let object = Attributes {
-            kind: *kind,
-            ..DIRECTORY
-        };
-        // type; mode, nlink, uid and gid, size and used; rdev; fsid, fileid and the three times
-        let told: [&[u32]; 5] = [&[0], &[*word], &[0; 8], device, &[0; 10]];
-        is_told(&rt, row, Answer::GetAttributes(Ok(object)), &told);
-    }
+    let regular = Attributes {
+        kind: FileKind::Regular,
+        ..DIRECTORY
+    };
+    let regular = Answer::GetAttributes(Ok(regular));
+    is_told(&rt, "NF3REG", regular, &[&[0, 1], &[0; 20]]);
+    let directory = Answer::GetAttributes(Ok(DIRECTORY));
+    is_told(&rt, "NF3DIR", directory, &[&[0, 2], &[0; 20]]);
+    let link = Attributes {
+        kind: FileKind::Special(SpecialType::SymbolicLink),
+        ..DIRECTORY
+    };
+    let link = Answer::GetAttributes(Ok(link));
+    is_told(&rt, "NF3LNK", link, &[&[0, 5], &[0; 20]]);
+    let socket = Attributes {
+        kind: FileKind::Special(SpecialType::Socket),
+        ..DIRECTORY
+    };
+    let socket = Answer::GetAttributes(Ok(socket));
+    is_told(&rt, "NF3SOCK", socket, &[&[0, 6], &[0; 20]]);
+    let fifo = Attributes {
+        kind: FileKind::Special(SpecialType::Fifo),
+        ..DIRECTORY
+    };
+    let fifo = Answer::GetAttributes(Ok(fifo));
+    is_told(&rt, "NF3FIFO", fifo, &[&[0, 7], &[0; 20]]);
+}
+
+const DEVICE: Device = Device { major: 8, minor: 1 };
+
+#[test]
+fn devices_are_told(rt: HostRuntime) {
+    // type; mode, nlink, uid and gid, size and used; rdev; fsid, fileid and the three times
+    let block = Attributes {
+        kind: FileKind::Special(SpecialType::BlockDevice(DEVICE)),
+        ..DIRECTORY
+    };
+    let block = Answer::GetAttributes(Ok(block));
+    let told: [&[u32]; 4] = [&[0, 3], &[0; 8], &[8, 1], &[0; 10]];
+    is_told(&rt, "NF3BLK", block, &told);
+    let character = Attributes {
+        kind: FileKind::Special(SpecialType::CharacterDevice(DEVICE)),
+        ..DIRECTORY
+    };
+    let character = Answer::GetAttributes(Ok(character));
+    let told: [&[u32]; 4] = [&[0, 4], &[0; 8], &[8, 1], &[0; 10]];
+    is_told(&rt, "NF3CHR", character, &told);
 }
 
 /// NFS3_OK, symlink_attributes, and the path of two bytes.
