@@ -325,9 +325,7 @@ pub(crate) fn make_link_here(
     if let Some(status) = linking_refusal(held, fileid, directory, name, run.caller) {
         return Outcome::Replied(Reply::Success(Answer::MakeLink(Err(status))));
     }
-    outcome_linked(make_link(
-        run.alloc, held, volume, fileid, directory, name, run.moment,
-    ))
+    outcome_linked(make_link(run.alloc, held, volume, fileid, directory, name, run.moment))
 }
 
 /// What a CREATE comes to.
