@@ -145,7 +145,8 @@ pub(crate) fn read_directory_here(
     requires whole { HasVolume named.volume.0 logical_lens [] (logical_before held.now) }
     ensures { (layout : trees.Layout) → RunsOn named.volume.0 logical_lens
         (call_named layout (named_of named) (caller_of run.entry.caller.now)
-        (moment_of run.entry.moment) (call_of (calls.ReadDirectory directory.now asked.cookie asked.verifier asked.count)))
+        (moment_of run.entry.moment)
+        (call_of (calls.ReadDirectory directory.now asked.cookie asked.verifier asked.count)))
         (logical_before held.now) (outcome_of result) (logical_before held.now) }
 {
     let Named { volume, fileid } = named;

@@ -39,7 +39,7 @@ use std::alloc::{AllocError, Global};
 /// with to's, INVAL for `.` and `..` in either, NOENT where from's name isn't there. Where both are
 /// names of one node nothing changes. INVAL for a directory that would come into itself or below
 /// itself, NAMETOOLONG for one that would come deeper than the volume's steps reach, EXIST where
-/// what to's name is of may not go; else that loses the name as by REMOVE or RMDIR, and the node has
+/// what has to's name may not go; else that loses the name as by REMOVE or RMDIR, and the node gets
 /// it. Memory runs out only where the node would come under another name, and then nothing has
 /// changed.
 pub fn rename(
