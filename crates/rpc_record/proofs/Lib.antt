@@ -8,3 +8,4 @@ pub mod Came
 pub mod Feeding
 pub mod Unique
 mod Walks
+pub mod Whole
