@@ -12,8 +12,8 @@ from plain import ADMIN
 from repeats import Nobody, User, record, to_set
 from results import CREATE
 from users import (
-    ACCES, BADHANDLE, CLIENT_TIME, EXCLUSIVE, GUARDED, NOTSUPP, OK, PERM, ROFS, ROOT, SERVER_TIME, STALE, UNCHECKED, Users,
-    high_port, low_port,
+    ACCES, BADHANDLE, CLIENT_TIME, CHARACTER, EXCLUSIVE, FIFO, GUARDED, OK, PERM, REGULAR, ROFS, ROOT, SERVER_TIME, SOCKET,
+    STALE, UNCHECKED, Users, high_port, low_port,
 )  # fmt: skip
 from xdr import opaque, words
 
@@ -187,13 +187,26 @@ def changing_calls(ask, who, directory, file):
         yield ask.remove(who, directory, name)
         yield ask.rmdir(who, directory, name)
         yield ask.rename(who, directory, name, directory, b"other")
+        yield ask.symlink(who, directory, name)
+        yield ask.link(who, file, directory, name)
+        yield ask.link(who, directory, directory, name)
     yield ask.rename(who, file, b"x", directory, b"y")
+    for kind in (CHARACTER, FIFO, REGULAR):
+        yield ask.mknod(who, directory, b"new", kind)
+    yield ask.symlink(who, directory, b"new", b"")
+    yield ask.symlink(who, file, b"new")
+    yield ask.link(who, file, file, b"new")
 
 
 def reads_alone(ask, writer, name):
     """A peer that only reads is told ROFS by whatever changes something, before all but a bad handle; the rest is as ever."""
     directory = made(writer.mkdir(ROOT, writer.root, name, mode=0o777))
     file = made(writer.create(ROOT, directory, b"file", mode=0o640, uid=1000, gid=7))
+    # what is written to a FIFO, a socket or a device changes nothing here, so that ACCESS gives w of it
+    special = {
+        made(writer.mknod(ROOT, directory, b"fifo", FIFO, mode=0o666)): 1 + 12, made(writer.mknod(ROOT, directory, b"s", SOCKET, mode=0o666)): 1 + 12,
+        made(writer.mknod(ROOT, directory, b"device", CHARACTER, mode=0o666)): 1 + 12, made(writer.symlink(ROOT, directory, b"l", mode=0o666)): 1,
+    }  # fmt: skip
     gone = made(writer.create(ROOT, directory, b"gone"))
     expect(writer.write(ROOT, file, b"bytes"), OK), expect(writer.remove(ROOT, directory, b"gone"), OK)
     before = [writer.whole(node) for node in (directory, file)]
@@ -202,14 +215,17 @@ def reads_alone(ask, writer, name):
             expect(told, ROFS)
         expect(ask.setattr(who, b"bad", mode=0), BADHANDLE), expect(ask.write(who, b"bad"), BADHANDLE)
         expect(ask.remove(who, b"bad", b"x"), BADHANDLE)
-        for told in (ask.symlink(who, directory, b"s"), ask.mknod(who, directory, b"m"), ask.link(who, file, directory, b"l")):
-            expect(told, NOTSUPP)
+        for told in (ask.symlink(who, b"bad", b"s"), ask.mknod(who, b"bad", b"m"), ask.link(who, file, b"bad", b"l")):
+            expect(told, BADHANDLE)
         hold([writer.whole(node) for node in (directory, file)] == before, "something is changed")
         equal(expect(ask.lookup(who, directory, b"file"), OK).node, file, "LOOKUP")
         expect(ask.readdir(who, directory), OK), expect(ask.readdirplus(who, directory), OK), expect(ask.getattr(who, file), OK)
         expect(ask.mnt(who, b"/" + name), OK), expect(ask.pathconf(who, file), OK), expect(ask.fsstat(who, file), OK)
         expect(ask.getattr(who, gone), STALE)
         equal(ask.access(who, directory).value, 1 + 2, "ACCESS of a directory")
+        for node, given in special.items():
+            equal(ask.access(who, node).value, given, f"ACCESS of {ask.getattr(who, node).attributes}")
+        equal(expect(ask.readlink(who, ask.lookup(who, directory, b"l").node), OK).value, b"target", "the text of a symbolic link")
     may_read = {True: OK, False: ACCES}
     for who, its in ((ROOT, True), (ANN, True), (BEN, False), (NOBODY, False)):
         expect(ask.read(who, file), may_read[its]), expect(ask.commit(who, file), may_read[its])

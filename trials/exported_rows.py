@@ -22,8 +22,9 @@ USER_0 = "00000001 00000018 00000007 00000001 6d000000 00000000 00000000 0000000
 USER_8 = "00000001 00000020 00000007 00000001 6d000000 00000008 00000009 00000002 0000000a 00000000"
 NOBODY = "00000000 00000000"
 ABC = "00000003 61626300"
-# sattr3 that sets nothing
+# sattr3 that sets nothing, and a size of 5 alone
 UNSET = "00000000 00000000 00000000 00000000 00000000 00000000"
+SIZE_5 = "00000000 00000000 00000000 00000001 00000000 00000005 00000000 00000000"
 
 
 def call(size, xid, program, version, procedure, user=NOBODY):
@@ -142,11 +143,11 @@ ROWS = [
     (
         f"{nfs('040', '00000025', '13')} {handle()}",
         f"{reply('0a4', '00000025')} 00000000 00000001 {ROOT} {SIZES} 00000000 04000000 00000000"
-        f" 00000001 00000018",
+        f" 00000001 0000001b",
     ),
     (
         f"{nfs('040', '00000026', '14')} {handle('00000001')}",
-        f"{reply('08c', '00000026')} 00000000 00000001 {ROOT_1} 00000001 000000ff 00000001 00000000"
+        f"{reply('08c', '00000026')} 00000000 00000001 {ROOT_1} 0000fde8 000000ff 00000001 00000000"
         f" 00000000 00000001",
     ),
     # READDIRPLUS: all; a page of 248 bytes or of names of 28 bytes, which has the first entry
@@ -201,32 +202,78 @@ ROWS = [
         f"{nfs('054', '00000039', '11')} {handle()} {FROM_THE_START} 00001000",
         reply("018", "00000039", "00000004"),
     ),
-    # READLINK, SYMLINK, MKNOD of a device, a fifo and a file, and LINK; READLINK of a handle of 12
-    # bytes
-    (f"{nfs('040', '00000040', '05')} {handle()}", failed("00000040", "00002714", 1)),
+    # READLINK of a root, which is no symbolic link; SYMLINK of an empty text, of one with two bytes 0, and with a size; MKNOD of
+    # a regular file, a directory and a symbolic link, of a fifo and of a device with a size; LINK of a root, which is a directory
+    (f"{nfs('040', '00000040', '05')} {handle()}", failed("00000040", "00000016", 1)),
     (
-        f"{nfs('068', '00000041', '0a')} {handle()} {ABC} {UNSET} 00000003 61626300",
-        failed("00000041", "00002714", 2),
+        f"{nfs('064', '00000041', '0a')} {handle()} {ABC} {UNSET} 00000000",
+        failed("00000041", "00000002", 2),
     ),
     (
-        f"{nfs('06c', '00000042', '0b')} {handle()} {ABC} 00000004 {UNSET} 00000001 00000003",
-        failed("00000042", "00002714", 2),
+        f"{nfs('068', '00000070', '0a')} {handle()} {ABC} {UNSET} 00000003 61000000",
+        failed("00000070", "00000016", 2),
     ),
     (
-        f"{nfs('064', '00000043', '0b')} {handle()} {ABC} 00000007 {UNSET}",
-        failed("00000043", "00002714", 2),
+        f"{nfs('070', '00000071', '0a')} {handle()} {ABC} {SIZE_5} 00000003 61626300",
+        failed("00000071", "00000016", 2),
     ),
     (
-        f"{nfs('04c', '00000044', '0b')} {handle()} {ABC} 00000001",
-        failed("00000044", "00002714", 2),
+        f"{nfs('04c', '00000042', '0b')} {handle()} {ABC} 00000001",
+        failed("00000042", "00002717", 2),
+    ),
+    (
+        f"{nfs('04c', '00000043', '0b')} {handle()} {ABC} 00000002",
+        failed("00000043", "00002717", 2),
+    ),
+    (
+        f"{nfs('04c', '00000044', '0b')} {handle()} {ABC} 00000005",
+        failed("00000044", "00002717", 2),
+    ),
+    (
+        f"{nfs('06c', '00000072', '0b')} {handle()} {ABC} 00000007 {SIZE_5}",
+        failed("00000072", "00000016", 2),
+    ),
+    (
+        f"{nfs('074', '00000073', '0b')} {handle()} {ABC} 00000004 {SIZE_5} 00000001 00000003",
+        failed("00000073", "00000016", 2),
     ),
     (
         f"{nfs('060', '00000045', '0f')} {handle()} {handle()} {ABC}",
-        failed("00000045", "00002714", 3),
+        failed("00000045", "00000016", 3),
     ),
+    # handles of 12 bytes, of a volume that isn't there, and of another run: READLINK, SYMLINK, MKNOD, LINK; LINK into another volume
     (
         f"{nfs('038', '00000046', '05')} 0000000c 00000000 00000000 00000001",
-        failed("00000046", "00002714", 1),
+        failed("00000046", "00002711", 1),
+    ),
+    (f"{nfs('040', '00000074', '05')} {handle(run=OTHER_RUN)}", failed("00000074", "00000046", 1)),
+    (
+        f"{nfs('068', '00000075', '0a')} {handle('00000002', OTHER_RUN)} {ABC} {UNSET} 00000003 61626300",
+        failed("00000075", "00002711", 2),
+    ),
+    (
+        f"{nfs('068', '00000076', '0a')} {handle(run=OTHER_RUN)} {ABC} {UNSET} 00000003 61626300",
+        failed("00000076", "00000046", 2),
+    ),
+    (
+        f"{nfs('06c', '00000077', '0b')} {handle(run=OTHER_RUN)} {ABC} 00000003 {UNSET} 00000001 00000003",
+        failed("00000077", "00000046", 2),
+    ),
+    (
+        f"{nfs('058', '00000078', '0f')} 0000000c 00000000 00000000 00000001 {handle()} {ABC}",
+        failed("00000078", "00002711", 3),
+    ),
+    (
+        f"{nfs('060', '00000079', '0f')} {handle()} {handle('00000002')} {ABC}",
+        failed("00000079", "00002711", 3),
+    ),
+    (
+        f"{nfs('060', '0000007a', '0f')} {handle()} {handle('00000001')} {ABC}",
+        failed("0000007a", "00000012", 3),
+    ),
+    (
+        f"{nfs('060', '0000007b', '0f')} {handle(run=OTHER_RUN)} {handle()} {ABC}",
+        failed("0000007b", "00000046", 3),
     ),
     # SYMLINK without its path, MKNOD of kind 8, MKNOD of a socket without what it sets, LINK of a
     # handle of 65 bytes
@@ -304,15 +351,32 @@ LONG = [
         f"{mount('134', '0000006f', '01')} 00000106 2f766f6c 302f{'61' * 256} 0000",
         f"{reply('01c', '0000006f')} 0000003f",
     ),
-    # SYMLINK and LINK of a name of 256 bytes
+    # SYMLINK of a name of 256 bytes, and of a text of 1,025; of `.`, and MKNOD of `..`; MKNOD of a socket at a moment of 10^9
+    # nanoseconds; LINK of a root by a name of 256
     (
         f"{nfs('164', '00000062', '0a')} {handle()} 00000100 {'61' * 256} {UNSET} 00000001"
         f" 61000000",
-        failed("00000062", "00002714", 2),
+        failed("00000062", "0000003f", 2),
+    ),
+    (
+        f"{nfs('468', '0000007c', '0a')} {handle()} {ABC} {UNSET} 00000401 {'61' * 1025} 000000",
+        failed("0000007c", "0000003f", 2),
+    ),
+    (
+        f"{nfs('068', '0000007d', '0a')} {handle()} 00000001 2e000000 {UNSET} 00000001 61000000",
+        failed("0000007d", "00000011", 2),
+    ),
+    (
+        f"{nfs('064', '0000007e', '0b')} {handle()} 00000002 2e2e0000 00000007 {UNSET}",
+        failed("0000007e", "00000011", 2),
+    ),
+    (
+        f"{nfs('06c', '0000007f', '0b')} {handle()} {ABC} 00000006 {UNSET[:44]} 00000002 00000005 3b9aca00",
+        failed("0000007f", "00000016", 2),
     ),
     (
         f"{nfs('15c', '00000063', '0f')} {handle()} {handle()} 00000100 {'61' * 256}",
-        failed("00000063", "00002714", 3),
+        failed("00000063", "00000016", 3),
     ),
     # LOOKUP of one of 256
     (

@@ -10,8 +10,6 @@ from plain import Call, Stream, exporting
 from results import GETATTR, are_results
 from xdr import opaque
 
-# Procedures of NFS by which nothing changes; no call of another is to be made by a changed byte.
-CHANGE_NOTHING = (0, 1, 3, 4, 5, 10, 11, 15, 17, 19, 20)
 # This many rows make one stream.
 TOGETHER = 8
 # Between two pieces of a stream, so that they come apart.

@@ -103,6 +103,18 @@ class Mounted:
         self.call("stat64", path, ctypes.byref(told))
         return told
 
+    def attributes_of_link(self, path):
+        """Of what a name stands for, though it be a symbolic link."""
+        told = Attributes()
+        self.call("lstat64", path, ctypes.byref(told))
+        return told
+
+    def text(self, path):
+        """That of a symbolic link."""
+        room = ctypes.create_string_buffer(4096)
+        self.call("readlink", path, room, len(room))
+        return room.value
+
     def names(self, path):
         folder, names = ctypes.c_void_p(), []
         self.call("opendir", path, ctypes.byref(folder))
@@ -227,21 +239,85 @@ def names_are_moved_and_removed(port, folder):
     volume.end()
 
 
-def links_and_devices_are_refused(port, folder):
+def symbolic_links_are_made_read_and_followed(port, folder):
     volume = Mounted(port, "/vol0")
-    for asked in (
-        ("symlink", "/copied", "/symbolic"),
-        ("link", "/copied", "/hard"),
-        ("mknod", "/device", stat.S_IFCHR | 0o644, 0x103),
-        ("mknod", "/fifo", stat.S_IFIFO | 0o644, 0),
-    ):
-        try:
-            volume.call(*asked)
-        except OSError:
-            continue
-        raise Wrong(f"{asked} isn't refused")
+    volume.call("mkdir", "/links")
+    long = "/".join(["component" * 10] * 11)[:1024]
+    for text, name in (("../copied", "up"), ("/vol0/copied", "from-the-root"), ("nowhere", "dangling"), (long, "long"), ("up", "twice")):
+        volume.call("symlink", text, f"/links/{name}")
+        expect(volume.text(f"/links/{name}"), text.encode())
+        told = volume.attributes_of_link(f"/links/{name}")
+        expect((stat.S_ISLNK(told.mode), told.links, told.size, told.used), (True, 1, len(text), 0))
+    for name in ("up", "from-the-root", "twice"):
+        expect(volume.attributes(f"/links/{name}").size, 1_000_003)
+        file = volume.open(f"/links/{name}", os.O_RDONLY)
+        expect(len(volume.read(file, 0, 1 << 21)), 1_000_003)
+        volume.call("close", file)
+    refused(errno.ENOENT, volume.attributes, "/links/dangling")
+    refused(errno.EEXIST, volume.call, "symlink", "again", "/links/up")
+    refused(errno.EINVAL, volume.text, "/copied")
+    # the link is renamed and goes, and not what it leads to
+    volume.call("rename", "/links/up", "/links/moved")
+    expect(volume.text("/links/moved"), b"../copied")
+    for name in ("moved", "from-the-root", "dangling", "long", "twice"):
+        volume.call("unlink", f"/links/{name}")
+    volume.call("rmdir", "/links")
     expect(volume.names("/"), [".", "..", "copied"])
     volume.end()
+
+
+def files_have_several_names(port, folder):
+    volume = Mounted(port, "/vol0")
+    volume.call("mkdir", "/links")
+    made_by(volume, "/links/one", b"its bytes")
+    first = volume.attributes("/links/one")
+    volume.call("link", "/links/one", "/links/two")
+    volume.call("link", "/links/two", "/three")
+    for path in ("/links/one", "/links/two", "/three"):
+        told = volume.attributes(path)
+        expect((told.ino, told.links, read_by(volume, path)), (first.ino, 3, b"its bytes"))
+    file = volume.open("/three", os.O_RDWR)
+    volume.write(file, 0, b"new bytes")
+    volume.call("close", file)
+    expect(read_by(volume, "/links/one"), b"new bytes")
+    refused(errno.EEXIST, volume.call, "link", "/links/one", "/three")
+    volume.call("unlink", "/links/one")
+    expect(volume.attributes("/three").links, 2)
+    # of two names of one file one isn't moved over the other
+    volume.call("rename", "/three", "/links/two")
+    expect((volume.names("/links"), volume.attributes("/three").links), ([".", "..", "two"], 2))
+    made_by(volume, "/other", b"other")
+    volume.call("rename", "/other", "/links/two")
+    expect((volume.attributes("/three").links, read_by(volume, "/three"), read_by(volume, "/links/two")), (1, b"new bytes", b"other"))
+    volume.call("unlink", "/three")
+    volume.call("unlink", "/links/two")
+    volume.call("rmdir", "/links")
+    expect(volume.names("/"), [".", "..", "copied"])
+    volume.end()
+
+
+def special_files_are_made(port, folder):
+    """Devices are for uid 0."""
+    root, owner = Mounted(port, "/vol0", (0, 0)), Mounted(port, "/vol0", (1000, 100))
+    kinds = {
+        "fifo": (stat.S_IFIFO, 0), "socket": (stat.S_IFSOCK, 0), "block": (stat.S_IFBLK, os.makedev(8, 1)),
+        "character": (stat.S_IFCHR, os.makedev(1, 3)),
+    }  # fmt: skip
+    for volume, name in ((owner, "fifo"), (owner, "socket"), (root, "block"), (root, "character")):
+        kind, device = kinds[name]
+        volume.call("mknod", f"/{name}", kind | 0o640, device)
+        told = volume.attributes(f"/{name}")
+        expect((stat.S_IFMT(told.mode), told.mode & 0o7777, told.links, told.size), (kind, 0o640, 1, 0))
+        refused(errno.EEXIST, volume.call, "mknod", f"/{name}", kind | 0o640, device)
+    for name in ("block", "character"):
+        refused(errno.EPERM, owner.call, "mknod", "/another", kinds[name][0] | 0o640, kinds[name][1])
+    root.call("link", "/character", "/linked")
+    expect(root.attributes("/linked").links, 2)
+    for name in (*kinds, "linked"):
+        root.call("unlink", f"/{name}")
+    expect(root.names("/"), [".", "..", "copied"])
+    for volume in (root, owner):
+        volume.end()
 
 
 def bytes_are_kept(port, folder):
@@ -354,7 +430,9 @@ CHECKS = (
     directories_are_mounted,
     directories_are_made_and_removed,
     names_are_moved_and_removed,
-    links_and_devices_are_refused,
+    symbolic_links_are_made_read_and_followed,
+    files_have_several_names,
+    special_files_are_made,
     bytes_are_kept,
     attributes_are_set,
     all_names_are_listed,

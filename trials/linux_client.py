@@ -1,4 +1,5 @@
-"""A Linux kernel's NFS client over a running server: Debian's kernel in QEMU, by emulation alone, with busybox and `guest/`.
+"""A Linux kernel's NFS client over a running server: Debian's kernel in QEMU, by emulation alone, with busybox, some programs of this
+machine and `guest/`.
 
 The guest's 10.0.2.2 is this machine's 127.0.0.1, so that nothing leaves the machine and no port mapper is needed."""
 
@@ -16,10 +17,12 @@ HERE = Path(__file__).resolve().parent
 EMULATOR = "qemu-system-x86_64"
 # What the client needs of the kernel, as modules; one that is built in has no file.
 MODULES = ("virtio_pci", "virtio_net", "sunrpc", "lockd", "dns_resolver", "nfs_acl", "nfs", "nfsv3")
+# Programs of this machine that the guest has too, in a folder of their own.
+OF_THIS_MACHINE = ("cp", "find", "git", "tar")
 # What has to be there, and the packages that have it.
-PROGRAMS, PACKAGES = (EMULATOR, "cpio", "dpkg-deb"), ("qemu-system-x86", "cpio")
+PROGRAMS, PACKAGES = (EMULATOR, "cpio", "dpkg-deb", *OF_THIS_MACHINE), ("qemu-system-x86", "cpio", "git")
 # How long the whole guest may take, in seconds.
-GUEST_SECONDS = 720
+GUEST_SECONDS = 900
 # What the guest's checks go by: the MiB of an image, the pieces that are written into it, the files of a tree, and how many seconds
 # a check may take. And those checks that are of any size.
 SMALL = {"image": 256, "pieces": 60, "files": 500, "limit": 300}
@@ -87,12 +90,30 @@ def in_order(modules):
     return ordered
 
 
+def put(path, root, place=None):
+    """A file of this machine at its place in the guest's first file system, or at another one."""
+    target = root / str(place or path).lstrip("/")
+    target.parent.mkdir(parents=True, exist_ok=True)
+    shutil.copy(path, target)
+
+
+def put_programs(root):
+    """Programs of this machine with the libraries that they name. git has one that it starts by another name."""
+    for name in OF_THIS_MACHINE:
+        path = Path(shutil.which(name)).resolve()
+        for library in set(re.findall(r"(/\S+) \(0x", run(["ldd", str(path)], ".", 60))):
+            put(library, root)
+        put(path, root, f"/gnu/{name}")
+    (root / "gnu" / "git-upload-pack").symlink_to("git")
+
+
 @functools.cache
 def build():
     """Fetches kernel and busybox, and makes the guest's first file system: the paths of both."""
     folder = scratch()
-    if not shutil.which(EMULATOR) or not shutil.which("cpio"):
-        raise Unavailable(f"{EMULATOR} or cpio isn't there")
+    for name in PROGRAMS:
+        if not shutil.which(name):
+            raise Unavailable(f"{name} isn't there")
     for package in (kernel_package(), "busybox-static"):
         run(["apt-get", "download", "-q", package], folder, 240)
     unpacked, root = folder / "unpacked", folder / "root"
@@ -104,6 +125,7 @@ def build():
     for name in ("init", "checks"):
         shutil.copy(HERE / "guest" / name, root / name)
     (root / "init").chmod(0o755)
+    put_programs(root)
     modules = in_order(next(unpacked.rglob("lib/modules/*/kernel")))
     for path in modules:
         shutil.copy(path, root / "lib" / path.name)

@@ -102,11 +102,17 @@ def place(rng):
     return struct.pack(">QI", offset, rng.choice((0, 1, 4, 4096, 8192, 65_537, 2**32 - 1)))
 
 
-def device(rng):
+def text(rng):
+    """What a symbolic link says."""
+    size = rng.choice((0, 1, 1023, 1024, 1025, 60_000))
+    return opaque(rng.choice((b"a", b"..", b"../a b/", b"\0", b"a\0b", letters(rng, size), b"/" + b"p" * size)))
+
+
+def node_to_make(rng):
     """mknoddata3 of any kind, and of none."""
     kind = rng.choice((0, 1, 2, 3, 4, 5, 6, 7, 8, 2**32 - 1))
     behind = {
-        3: to_set(rng) + words(1, 3),
+        3: to_set(rng) + words(rng.randrange(2**32), rng.randrange(2**32)),
         4: to_set(rng) + words(8, 0),
         6: to_set(rng),
         7: to_set(rng),
@@ -163,9 +169,9 @@ def arguments(rng, service, procedure):
     if procedure == 9:
         return node + name(rng) + to_set(rng)
     if procedure == 10:
-        return node + name(rng) + to_set(rng) + path(rng)
+        return node + name(rng) + to_set(rng) + text(rng)
     if procedure == 11:
-        return node + name(rng) + device(rng)
+        return node + name(rng) + node_to_make(rng)
     if procedure == 14:
         return node + name(rng) + handle(rng, service) + name(rng)
     if procedure == 15:

@@ -1,16 +1,18 @@
 """Calls that `filer export` alone answers, as clients make them among the others: what they are
-told, and that they change nothing (RFC 1813 sections 3.3 and appendix I, docs/SPECIFICATION.md)."""
+told, and what they leave (RFC 1813 sections 3.3 and appendix I, docs/SPECIFICATION.md)."""
 
 import wire
-from owners import BLOCK, DIRECTORY, REGULAR, ROOT, Call, Owner, Wrong, expect
+from owners import BLOCK, DIRECTORY, REGULAR, ROOT, Call, Owner, Wrong, expect, made
 from wire import MOUNT, hyper, opaque, words
+from xdr import CHARACTER, FIFO, SOCKET, SYMBOLIC_LINK
 
-# What no file has a room for in the call itself.
-LONG_NAME, LONG_PATH = "n" * 250, "/" + "p" * 1000
+# What no file has a room for in the call itself. A text of a symbolic link may be as long, and no longer.
+LONG_NAME, LONG_PATH, LONG_TEXT = "n" * 250, "/" + "p" * 1000, b"/" + b"t" * 1023
 ALL_BITS = 0x3F
+PERM, NAMETOOLONG = 1, 63
 # FSINFO and PATHCONF behind the attributes, where callers are checked.
-INFO = words(65536, 65536, 4096, 65536, 65536, 4096, 65536) + hyper(1 << 26) + words(0, 1, 24)
-CONFIGURATION = words(1, 255, 1, 1, 0, 1)
+INFO = words(65536, 65536, 4096, 65536, 65536, 4096, 65536) + hyper(1 << 26) + words(0, 1, 27)
+CONFIGURATION = words(65000, 255, 1, 1, 0, 1)
 
 
 def mount_root(files):
@@ -80,10 +82,6 @@ def no_parts(name, count):
     return lambda reader: expect(name, reader.bytes(4 * count), bytes(4 * count))
 
 
-def kind_of(is_directory):
-    return DIRECTORY if is_directory else REGULAR
-
-
 def entry_plus(reader, files, sizes):
     """An entry of READDIRPLUS: its name, fileid and kind, after looking at the rest."""
     fileid, name = reader.hyper(), reader.opaque().decode()
@@ -117,10 +115,15 @@ def list_plus(files, directory, names, sizes):
 class MountedOwner(Owner):
     """What one client made, and asks of it by the calls of `export`."""
 
+    def __init__(self, number, files):
+        super().__init__(number, files)
+        # of what is neither a file nor a directory its kind and text, by its name
+        self.special = {}
+
     def look_at(self, reader):
         """Compares attributes with what is known of the file while other calls may change it."""
         got = reader.maybe(reader.attributes)
-        expect("attributes", (got["type"], got["links"], got["fileid"]), (REGULAR, 1, self.file))
+        expect("attributes", (got["type"], got["fileid"]), (REGULAR, self.file))
 
     def access(self):
         def judge(reader):
@@ -147,56 +150,129 @@ class MountedOwner(Owner):
     def list_home_plus(self):
         """READDIRPLUS of the directory, where no other call runs."""
         sizes = {"data": (self.size, BLOCK * len(self.blocks))}
-        names = {
-            name: (fileid, kind_of(name in self.subdirectories))
-            for name, fileid in self.names.items()
-        }
+        sizes |= {name: (len(text), 0) for name, (_kind, text) in self.special.items()}
+        names = {name: (fileid, self.kind_of(name)) for name, fileid in self.names.items()}
         return list_plus(self.files, self.directory, names, sizes)
 
     def list_root_plus(self, directories):
         names = {name: (fileid, DIRECTORY) for name, fileid in directories.items()}
         return list_plus(self.files, ROOT, names, {})
 
-    def refused(self, name, procedure, arguments, parts, may_starve=True):
-        """A call on links and devices."""
-        return Call(
-            name,
-            procedure,
-            arguments,
-            no_parts(name, parts),
-            may_starve=may_starve,
-            status=wire.NOTSUPP,
-        )
+    def kind_of(self, name):
+        if name in self.special:
+            return self.special[name][0]
+        return DIRECTORY if name in self.subdirectories else REGULAR
 
-    def make_symbolic_link(self):
-        arguments = (
-            self.files.entry(self.directory, LONG_NAME) + wire.UNSET + opaque(LONG_PATH.encode())
-        )
-        return self.refused("SYMLINK", 10, arguments, 2)
+    # Symbolic links, special files and further names. A round makes some, and some of those of the rounds before go.
 
-    def make_device(self):
-        arguments = (
-            self.files.entry(self.directory, LONG_NAME) + words(4) + wire.UNSET + words(1, 3)
-        )
-        return self.refused("MKNOD", 11, arguments, 2)
+    def make_special(self, procedure, name, kind, text, behind):
+        def judge(reader):
+            self.names[name] = made(reader, self.files)
+            self.special[name] = kind, text
 
-    def make_link(self):
-        arguments = self.files.handle(self.file) + self.files.entry(self.directory, LONG_NAME)
-        return self.refused("LINK", 15, arguments, 3)
+        arguments = self.files.entry(self.directory, name) + behind
+        return Call(procedure, {"SYMLINK": 10, "MKNOD": 11}[procedure], arguments, judge, may_starve=True)
 
-    def read_link(self):
-        return self.refused("READLINK", 5, self.files.handle(self.file), 1, may_starve=False)
+    def make_symbolic_link(self, name, text):
+        return self.make_special("SYMLINK", name, SYMBOLIC_LINK, text, wire.UNSET + opaque(text))
+
+    def make_node(self, name, kind):
+        return self.make_special("MKNOD", name, kind, b"", words(kind) + wire.UNSET)
+
+    def is_refused_a_device(self):
+        """MKNOD of a device by another than uid 0 (`wire.record` names nobody)."""
+        arguments = self.files.entry(self.directory, LONG_NAME) + words(CHARACTER) + wire.UNSET + words(1, 3)
+        return Call("MKNOD", 11, arguments, no_parts("MKNOD", 2), may_starve=True, status=PERM)
+
+    def is_refused_a_text(self):
+        """SYMLINK of a text of a byte more."""
+        arguments = self.files.entry(self.directory, "long") + wire.UNSET + opaque(LONG_TEXT + b"t")
+        return Call("SYMLINK", 10, arguments, no_parts("SYMLINK", 2), may_starve=True, status=NAMETOOLONG)
+
+    def make_link(self, name):
+        """One more name of the file."""
+
+        def judge(reader):
+            self.look_at(reader)
+            reader.before_and_after()
+            self.names[name] = self.file
+            self.links += 1
+
+        arguments = self.files.handle(self.file) + self.files.entry(self.directory, name)
+        return Call("LINK", 15, arguments, judge, may_starve=True)
+
+    def is_refused_a_link(self):
+        """LINK of a directory."""
+        arguments = self.files.handle(self.directory) + self.files.entry(self.directory, LONG_NAME)
+        return Call("LINK", 15, arguments, no_parts("LINK", 3), may_starve=True, status=wire.INVAL)
+
+    def read_link(self, name):
+        """READLINK of a symbolic link, if it is there, else of the file, which is none."""
+        if name not in self.names:
+            arguments = self.files.handle(self.file)
+            return Call("READLINK", 5, arguments, no_parts("READLINK", 1), status=wire.INVAL)
+        fileid, text = self.names[name], self.special[name][1]
+
+        def judge(reader):
+            got = reader.maybe(reader.attributes)
+            told = got["type"], got["links"], got["size"], got["used"], got["fileid"]
+            expect("READLINK's attributes", told, (SYMBOLIC_LINK, 1, len(text), 0, fileid))
+            expect("READLINK", reader.opaque(), text)
+
+        return Call("READLINK", 5, self.files.handle(fileid), judge, may_starve=True)
+
+    def drop(self, name):
+        """REMOVE of a name of the file, or of what is special, if it is there."""
+        call = self.remove(name)
+        judge_names = call.judge
+
+        def judge(reader):
+            is_link = self.names.get(name) == self.file
+            judge_names(reader)
+            self.special.pop(name, None)
+            self.links -= is_link
+
+        call.judge = judge if call.status == wire.OK else no_parts("REMOVE", 2)
+        return call
+
+    def rename_to_itself(self, name):
+        """RENAME of another name of the file over its first: OK, and nothing changes, nor is memory taken. Where the other one isn't
+        there, over itself."""
+        old = name if name in self.names else "data"
+
+        def judge(reader):
+            reader.before_and_after()
+            reader.before_and_after()
+
+        arguments = self.files.entry(self.directory, old) + self.files.entry(self.directory, "data")
+        return Call("RENAME", 14, arguments, judge)
 
     def looks(self):
         calls = super().looks()
         return calls if self.directory is None else [*calls, self.list_home_plus]
 
-    def further_calls(self, directories):
+    def links_and_special_files(self, number):
+        before, long_ago = number - 1, number - 2
+        text = LONG_TEXT if number % 2 else b"t" * (1 + number)
+        return [
+            lambda: self.make_symbolic_link(f"s{number}", text),
+            lambda: self.read_link(f"s{before}"),
+            lambda: self.drop(f"s{long_ago}"),
+            lambda: self.make_node(f"p{number}", FIFO if number % 2 else SOCKET),
+            lambda: self.drop(f"p{before}"),
+            lambda: self.make_link(f"l{number}"),
+            lambda: self.rename_to_itself(f"l{before}"),
+            lambda: self.drop(f"l{long_ago}"),
+            self.is_refused_a_device,
+            self.is_refused_a_text,
+            self.is_refused_a_link,
+        ]
+
+    def further_calls(self, number, directories):
         own = [
             self.access,
             self.info,
             self.configuration,
             lambda: self.list_root_plus(directories()),
         ]
-        refused = [self.read_link, self.make_symbolic_link, self.make_device, self.make_link]
-        return own + refused + mount_calls(self.files)
+        return own + self.links_and_special_files(number) + mount_calls(self.files)

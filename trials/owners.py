@@ -62,6 +62,8 @@ class Owner:
         self.directory = None
         self.file = None
         self.names = {}
+        # how many names the file has
+        self.links = 0
         self.content = bytearray()
         self.blocks = set()
         self.subdirectories = set()
@@ -93,6 +95,7 @@ class Owner:
         def judge(reader):
             self.file = made(reader, self.files)
             self.names["data"] = self.file
+            self.links += 1
 
         return Call(
             "CREATE",
@@ -208,7 +211,7 @@ class Owner:
             got = reader.attributes()
             wanted = {
                 "type": REGULAR,
-                "links": 1,
+                "links": self.links,
                 "size": self.size,
                 "used": BLOCK * len(self.blocks),
                 "fileid": self.file,
@@ -232,14 +235,14 @@ class Owner:
         calls = [] if self.directory is None else [self.list_home]
         return calls if self.file is None else [*calls, self.look_at_file]
 
-    def further_calls(self, _directories):
-        """Calls that a round has beside those of each way to serve; `directories` gives what the
-        root has."""
+    def further_calls(self, _number, _directories):
+        """Calls that a round of this number has beside those of each way to serve; `directories` gives
+        what the root has."""
         return []
 
 
 def made(reader, files):
-    """The fileid that a CREATE or MKDIR made."""
+    """The fileid that was made."""
     fileid = reader.maybe(lambda: files.fileid(reader))
     expect("the attributes of what was made", reader.maybe(reader.attributes)["fileid"], fileid)
     reader.before_and_after()

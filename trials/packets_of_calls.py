@@ -5,7 +5,7 @@ import results
 from peers import hold
 from plain import ADMIN, MOUNT, NFS, VERSIONS, call_of
 from repeats import NAMES as DONE_ONCE
-from xdr import hyper, opaque, words
+from xdr import BLOCK, CHARACTER, DIRECTORY, FIFO, REGULAR, SOCKET, SYMBOLIC_LINK, hyper, opaque, words
 
 NAMES = {
     NFS: (
@@ -45,7 +45,7 @@ class Asked:
         return words(0x8000_0000 | len(self.body)) + self.body
 
     def heard(self, reply):
-        """Looks whether the reply is one to this call, and keeps what a CREATE or MKDIR made."""
+        """Looks whether the reply is one to this call."""
         found = call_of(self.body, self.service)
         hold(
             reply == found if isinstance(found, bytes) else found.is_reply(reply),
@@ -117,18 +117,37 @@ def on_nodes(service):
     ]
 
 
-def on_links_and_devices(service):
-    """Those that aren't supported."""
-    root, entry = opaque(service.handle(0)), opaque(service.handle(0)) + opaque(b"link")
-    refused = lambda procedure, arguments: Asked(
-        service, NFS, procedure, arguments, results.NOTSUPP
-    )
+def on_links_and_special_files(service):
+    """Calls on symbolic links, special files and further names, such as succeed and such as are refused. The first has fileid 6."""
+    root, file, symbolic = (opaque(service.handle(0, fileid)) for fileid in (1, 2, 6))
+    entry = lambda name: root + opaque(name)
+    given = words(1, 0o640, 1, 1000, 1, 100, 0, 1, 2, 7, 0)
+    asked = lambda procedure, arguments, status=results.OK: Asked(service, NFS, procedure, arguments, status)
+    make = lambda name, kind, behind=UNSET: asked(results.MKNOD, entry(name) + words(kind) + behind)
     return [
-        refused(results.READLINK, root),
-        refused(results.SYMLINK, entry + UNSET + opaque(b"/target")),
-        refused(results.MKNOD, entry + words(4) + UNSET + words(1, 3)),
-        refused(results.MKNOD, entry + words(7) + UNSET),
-        refused(results.LINK, root + entry),
+        asked(results.SYMLINK, entry(b"symbolic") + UNSET + opaque(b"../a target")),
+        asked(results.SYMLINK, entry(b"longest") + given + opaque(b"t" * 1024)),
+        asked(results.READLINK, symbolic),
+        asked(results.GETATTR, symbolic),
+        asked(results.ACCESS, symbolic + words(0x3F)),
+        make(b"fifo", FIFO),
+        make(b"socket", SOCKET, given),
+        make(b"block", BLOCK, UNSET + words(8, 1)),
+        make(b"character", CHARACTER, given + words(2**32 - 1, 2**32 - 2)),
+        asked(results.LINK, file + entry(b"hard")),
+        asked(results.LINK, symbolic + entry(b"other")),
+        asked(results.READDIRPLUS, root + hyper(0) + bytes(8) + words(4096, 8192)),
+        asked(results.RENAME, entry(b"hard") + entry(b"file")),
+        asked(results.RENAME, entry(b"fifo") + entry(b"socket")),
+        asked(results.REMOVE, entry(b"other")),
+        asked(results.READLINK, file, results.INVAL),
+        asked(results.SYMLINK, entry(b"file") + UNSET + opaque(b"text"), results.EXIST),
+        asked(results.SYMLINK, entry(b"new") + UNSET + opaque(b""), results.NOENT),
+        asked(results.SYMLINK, entry(b"new") + UNSET + opaque(b"t" * 1025), results.NAMETOOLONG),
+        *(asked(results.MKNOD, entry(b"new") + words(kind), results.BADTYPE) for kind in (REGULAR, DIRECTORY, SYMBOLIC_LINK)),
+        asked(results.MKNOD, file + opaque(b"new") + words(FIFO) + UNSET, results.NOTDIR),
+        asked(results.LINK, root + entry(b"new"), results.INVAL),
+        asked(results.LINK, file + opaque(service.handle(1)) + opaque(b"new"), results.XDEV),
     ]
 
 
@@ -145,6 +164,11 @@ def on_nothing(service):
             (results.WRITE, to_write(file, b"bytes")),
             (results.CREATE, file + opaque(b"name") + words(0) + UNSET),
             (results.MKDIR, file + opaque(b"name") + UNSET),
+            (results.READLINK, file),
+            (results.SYMLINK, file + opaque(b"name") + UNSET + opaque(b"text")),
+            (results.MKNOD, file + opaque(b"name") + words(FIFO) + UNSET),
+            (results.MKNOD, file + opaque(b"name") + words(CHARACTER) + UNSET + words(1, 3)),
+            (results.LINK, 2 * file + opaque(b"name")),
             (results.REMOVE, file + opaque(b"name")),
             (results.RMDIR, file + opaque(b"name")),
             (results.RENAME, 2 * (file + opaque(b"name"))),
@@ -192,5 +216,5 @@ def calls(service):
         Asked(service, NFS, 0, status=None),
         Asked(service, NFS, 0, status=None, user=words(0, 0)),
     ]
-    nfs = on_nodes(service) + on_links_and_devices(service) + on_nothing(service)
+    nfs = on_nodes(service) + on_links_and_special_files(service) + on_nothing(service)
     return nulls + on_mounts(service) + nfs + admin + refused

@@ -1,5 +1,5 @@
-"""Who may do what, as rows typed from POSIX (IEEE Std 1003.1, section 4.7, and chmod, chown, open, rename, unlink, utimensat, write) and
-RFC 1813 (sections 2.5, 3.3 and 4.4). Each row makes what it needs in a directory of its own and looks at what a call is told, and at
+"""Who may do what, as rows typed from POSIX (IEEE Std 1003.1, section 4.7, and chmod, chown, link, mknod, open, rename, symlink, unlink,
+utimensat, write) and RFC 1813 (sections 2.5, 2.6, 3.3 and 4.4). Each row makes what it needs in a directory of its own and looks at what a call is told, and at
 what it leaves. A row asks a server (`users.Users`), or plain rules (`posix_rules.Posix`)."""
 
 import itertools
@@ -8,8 +8,8 @@ from collections import namedtuple
 from peers import hold
 from repeats import User
 from users import (
-    ACCES, CLIENT_TIME, EXCLUSIVE, EXIST, GUARDED, INVAL, NAMETOOLONG, NOENT, NOTDIR, NOTSUPP, NOT_SYNC, OK, PERM, ROOT,
-    SERVER_TIME, STALE, UNCHECKED,
+    ACCES, BADTYPE, BLOCK, CHARACTER, CLIENT_TIME, DIRECTORY, EXCLUSIVE, EXIST, FIFO, GUARDED, INVAL, MADE_BY_MKNOD, NAMETOOLONG, NOENT,
+    ISDIR, NOTDIR, NOT_SYNC, DEVICE_NUMBERS, OK, PERM, REGULAR, ROOT, SERVER_TIME, SOCKET, STALE, SYMBOLIC_LINK, UNCHECKED,
 )  # fmt: skip
 from xdr import words
 
@@ -67,12 +67,19 @@ class Place:
     def directory(self, mode, uid=UID, gid=GID, name="directory", where=None):
         return self.made(name, self.ask.mkdir(ROOT, where or self.home, name.encode(), mode=mode, uid=uid, gid=gid))
 
+    def special(self, kind, mode, uid=UID, gid=GID, name="special", where=None):
+        """A symbolic link, or what MKNOD makes."""
+        given, directory = {"mode": mode, "uid": uid, "gid": gid}, where or self.home
+        if kind == SYMBOLIC_LINK:
+            return self.made(name, self.ask.symlink(ROOT, directory, name.encode(), b"its text", **given))
+        return self.made(name, self.ask.mknod(ROOT, directory, name.encode(), kind, **given))
+
     def state(self):
-        """All that is in it: attributes and times, names and bytes."""
+        """All that is in it: attributes and times, names, bytes and texts."""
         told = {}
         for name, node in self.nodes.items():
-            listed, read = self.ask.readdir(ROOT, node), self.ask.read(ROOT, node)
-            told[name] = self.ask.whole(node), listed.value, read.value
+            asked = self.ask.readdir(ROOT, node), self.ask.read(ROOT, node), self.ask.readlink(ROOT, node)
+            told[name] = self.ask.whole(node), [it.value for it in asked]
         return told
 
     def attributes(self, node):
@@ -97,7 +104,7 @@ def setattr_of(name, owner, others, refused, given):
     return of_file(name, lambda ask, who, node: ask.setattr(who, node, **given), owner, others, OK, refused, True)
 
 
-# What needs no right, of files and directories, and what nobody has.
+# What needs no right, of all nodes. READLINK is for symbolic links.
 NEEDLESS = (
     Way("NULL", lambda p, who: p.ask.null(who), ANY, ANY),
     of_file("GETATTR", lambda ask, who, node: ask.getattr(who, node), ANY, ANY),
@@ -105,8 +112,8 @@ NEEDLESS = (
     of_file("FSSTAT", lambda ask, who, node: ask.fsstat(who, node), ANY, ANY),
     of_file("FSINFO", lambda ask, who, node: ask.fsinfo(who, node), ANY, ANY),
     of_file("PATHCONF", lambda ask, who, node: ask.pathconf(who, node), ANY, ANY),
-    of_file("READLINK", lambda ask, who, node: ask.readlink(who, node), ANY, ANY, NOTSUPP),
 )
+NO_TEXT = (of_file("READLINK of another", lambda ask, who, node: ask.readlink(who, node), ANY, ANY, INVAL),)
 # chmod, chown and utimensat: mode, group and given times are the owner's; a time of the server is for who may write. A new uid is for
 # uid 0 alone, also where its owner gives it.
 ATTRIBUTES = (
@@ -134,8 +141,19 @@ OF_FILES = (
     Way("LOOKUP in a file", lambda p, who: p.ask.lookup(who, p.node, b"name"), ANY, ANY, NOTDIR),
     Way("READDIR of a file", lambda p, who: p.ask.readdir(who, p.node), ANY, ANY, NOTDIR),
     Way("READDIRPLUS of a file", lambda p, who: p.ask.readdirplus(who, p.node), ANY, ANY, NOTDIR),
-    Way("LINK of a file", lambda p, who: p.ask.link(who, p.node, p.home, b"linked"), ANY, ANY, NOTSUPP),
 )
+# Of what gets another name nothing is asked (link).
+LINKED = (Way("LINK of it", lambda p, who: p.ask.link(who, p.node, p.home, b"linked"), ANY, ANY, OK, ACCES, True),)
+OF_SPECIAL = (
+    Way("READ of it", lambda p, who: p.ask.read(who, p.node), ANY, ANY, INVAL),
+    Way("WRITE to it", lambda p, who: p.ask.write(who, p.node), ANY, ANY, INVAL),
+    Way("COMMIT of it", lambda p, who: p.ask.commit(who, p.node), ANY, ANY, INVAL),
+    of_file("SETATTR of a size", lambda ask, who, node: ask.setattr(who, node, size=2), ANY, W, INVAL),
+    Way("LOOKUP in it", lambda p, who: p.ask.lookup(who, p.node, b"name"), ANY, ANY, NOTDIR),
+    Way("READDIR of it", lambda p, who: p.ask.readdir(who, p.node), ANY, ANY, NOTDIR),
+    Way("CREATE over it", lambda p, who: p.ask.create(who, p.home, b"special", size=0), ANY, ANY, EXIST),
+)
+TEXT = (of_file("READLINK", lambda ask, who, node: ask.readlink(who, node), ANY, ANY),)
 
 
 def named(name, run, digits, *more):
@@ -188,9 +206,16 @@ OF_DIRECTORIES = (
     named("RENAME into it", lambda p, who: p.ask.rename(who, p.home, b"beside", p.node, b"new"), WX, OK, ACCES, True),
     named("RENAME over a file in it", lambda p, who: p.ask.rename(who, p.home, b"beside", p.node, b"inner"), WX, OK, ACCES, True),
     named("RENAME of none into it", lambda p, who: p.ask.rename(who, p.home, b"none", p.node, b"new"), X, NOENT),
-    named("SYMLINK", lambda p, who: p.ask.symlink(who, p.node, b"new"), ANY, NOTSUPP),
-    named("MKNOD", lambda p, who: p.ask.mknod(who, p.node, b"new"), ANY, NOTSUPP),
-    named("LINK", lambda p, who: p.ask.link(who, p.nodes["inner"], p.node, b"new"), ANY, NOTSUPP),
+    named("SYMLINK", lambda p, who: p.ask.symlink(who, p.node, b"new"), WX, OK, ACCES, True),
+    named("SYMLINK over a name", lambda p, who: p.ask.symlink(who, p.node, b"inner", b""), X, EXIST),
+    named("SYMLINK of nothing", lambda p, who: p.ask.symlink(who, p.node, b"new", b""), WX, NOENT),
+    named("MKNOD of a FIFO", lambda p, who: p.ask.mknod(who, p.node, b"new"), WX, OK, ACCES, True),
+    named("MKNOD of a socket", lambda p, who: p.ask.mknod(who, p.node, b"new", SOCKET), WX, OK, ACCES, True),
+    named("MKNOD of a device over a name", lambda p, who: p.ask.mknod(who, p.node, b"inner", BLOCK), X, EXIST),
+    named("MKNOD of a file", lambda p, who: p.ask.mknod(who, p.node, b"new", REGULAR), WX, BADTYPE),
+    named("LINK", lambda p, who: p.ask.link(who, p.nodes["inner"], p.node, b"new"), WX, OK, ACCES, True),
+    named("LINK over a name", lambda p, who: p.ask.link(who, p.nodes["beside"], p.node, b"inner"), X, EXIST),
+    named("LINK of a directory", lambda p, who: p.ask.link(who, p.nodes["below"], p.node, b"new"), WX, INVAL),
     Way("READ of a directory", lambda p, who: p.ask.read(who, p.node), ANY, ANY, INVAL),
     Way("WRITE to a directory", lambda p, who: p.ask.write(who, p.node), ANY, ANY, INVAL),
     Way("COMMIT of a directory", lambda p, who: p.ask.commit(who, p.node), ANY, ANY, INVAL),
@@ -199,6 +224,20 @@ OF_DIRECTORIES = (
 
 def file_of(place, mode):
     place.node = place.file(mode)
+
+
+def special_of(kind):
+    def build(place, mode):
+        place.node = place.special(kind, mode)
+
+    return build
+
+
+# What is neither a file nor a directory.
+KINDS = {
+    SYMBOLIC_LINK: "a symbolic link", FIFO: "a FIFO", SOCKET: "a socket", BLOCK: "a block device", CHARACTER: "a character device",
+}  # fmt: skip
+SPECIAL_KINDS = {kind: special_of(kind) for kind in KINDS}
 
 
 def directory_of(place, mode):
@@ -227,15 +266,21 @@ def modes(place):
 
 
 def matrix():
-    for build, ways in ((file_of, NEEDLESS + ATTRIBUTES + OF_FILES), (directory_of, NEEDLESS + ATTRIBUTES + OF_DIRECTORIES)):
+    all_ways = [
+        (file_of, "", NEEDLESS + NO_TEXT + ATTRIBUTES + OF_FILES + LINKED), (directory_of, "", NEEDLESS + NO_TEXT + ATTRIBUTES + OF_DIRECTORIES),
+        (SPECIAL_KINDS[SYMBOLIC_LINK], " of a symbolic link", NEEDLESS + TEXT + ATTRIBUTES + OF_SPECIAL + LINKED),
+        (SPECIAL_KINDS[FIFO], " of a FIFO", NEEDLESS + NO_TEXT + ATTRIBUTES + OF_SPECIAL + LINKED),
+    ]  # fmt: skip
+    for build, of_what, ways in all_ways:
         for way in ways:
             for whose, (who, place) in CLASSES.items():
                 for digit, mode in modes(place):
                     may = digit in (way.owner if place == 6 else way.others)
                     row = lambda ask, w=way, b=build, u=who, m=mode, may=may: by_mode(ask, w, b, u, m, may)
-                    yield f"{way.name} by {whose}, mode {mode:04o}", row
+                    yield f"{way.name}{of_what} by {whose}, mode {mode:04o}", row
             for mode in (0o000, 0o070, 0o777):
-                yield f"{way.name} by uid 0, mode {mode:04o}", lambda ask, w=way, b=build, m=mode: by_mode(ask, w, b, ROOT, m, True)
+                row = lambda ask, w=way, b=build, m=mode: by_mode(ask, w, b, ROOT, m, True)
+                yield f"{way.name}{of_what} by uid 0, mode {mode:04o}", row
 
 
 # ---- ACCESS (section 3.3.4)
@@ -259,15 +304,16 @@ def access_is(ask, build, who, mode, bits):
         equal(done(ask.lookup(who, place.node, b"inner")), bits & 2 != 0, "LOOKUP done")
         equal(done(ask.create(who, place.node, b"new")), bits & 12 == 12, "CREATE done")
         equal(done(ask.remove(who, place.node, b"inner")), bits & 16 != 0, "REMOVE done")
-    else:
+    elif build is file_of:
         owns = who.uid in (UID, 0)
         equal(done(ask.read(who, place.node)), owns or bits & 33 != 0, "READ done")
         equal(done(ask.write(who, place.node)), owns or bits & 12 == 12, "WRITE done")
 
 
 def accesses():
-    for build, bits in ((file_of, FILE_BITS), (directory_of, DIRECTORY_BITS)):
-        kind = "a file" if build is file_of else "a directory"
+    kinds = [(file_of, FILE_BITS, "a file"), (directory_of, DIRECTORY_BITS, "a directory")]
+    kinds += [(build, FILE_BITS, KINDS[kind]) for kind, build in SPECIAL_KINDS.items()]
+    for build, bits, kind in kinds:
         for whose, (who, place) in CLASSES.items():
             for digit, mode in modes(place):
                 row = lambda ask, b=build, u=who, m=mode, bits=bits[digit]: access_is(ask, b, u, m, bits)
@@ -390,11 +436,17 @@ def set_group_id_is_for_members(ask):
 
 
 def made_by(ask, who, directory, given, wanted):
-    """Of a file and of a directory that a user makes in a directory of this mode and group: mode, uid and gid."""
+    """Of a file and of a directory that a user makes in a directory of this mode and group: mode, uid and gid. What is neither is as a
+    file, but that a symbolic link has mode 0777 where none is given."""
     place = Place(ask)
     where = place.directory(*directory)
-    make = (("file", ask.create), ("below", ask.mkdir))
-    for (name, run), its in zip(make, wanted):
+    file, below = wanted
+    link = file if "mode" in given else (0o777, *file[1:])
+    make = (
+        ("file", ask.create, file), ("below", ask.mkdir, below), ("link", ask.symlink, link), ("fifo", ask.mknod, file),
+        ("socket", lambda *asked, **given: ask.mknod(*asked, SOCKET, **given), file),
+    )  # fmt: skip
+    for name, run, its in make:
         told = expect(run(who, where, name.encode(), **given), OK, f"making a {name}")
         equal(place.attributes(told.node), (oct(its[0]), *its[1:]), f"a {name} of {shown(given)}")
     if not given:
@@ -545,6 +597,176 @@ def mounts_through(ask):
     expect(ask.mnt(OTHER, b"/%s/.." % place.name), ACCES)
 
 
+# ---- links and special files
+
+
+def devices_are_for_uid_0(ask):
+    """MKNOD of a device by another is PERM (mknod), once a name may be made; devices have their numbers, all else has none."""
+    for kind in MADE_BY_MKNOD:
+        place = Place(ask)
+        open_one, closed = place.directory(0o777, name="open"), place.directory(0o755, name="closed")
+        before, is_device = place.state(), kind in (BLOCK, CHARACTER)
+        if is_device:
+            for who in (OWNER, GROUP, OTHER):
+                expect(ask.mknod(who, open_one, b"new", kind), PERM, f"{KINDS[kind]} of uid {who.uid}")
+            expect(ask.mknod(OTHER, closed, b"new", kind), ACCES)
+            equal(place.state(), before, "what is there")
+        made = expect(ask.mknod(ROOT if is_device else OTHER, open_one, b"new", kind), OK)
+        for found in (made, ask.getattr(OTHER, made.node), ask.lookup(OTHER, open_one, b"new")):
+            told = found.attributes
+            wanted = (kind, 1, DEVICE_NUMBERS if is_device else (0, 0), 0)
+            equal((told.kind, told.links, told.device, told.size), wanted, KINDS[kind])
+        expect(ask.mknod(ROOT, open_one, b"new", kind), EXIST)
+    place = Place(ask)
+    for kind in (REGULAR, DIRECTORY, SYMBOLIC_LINK):
+        for who in (ROOT, OTHER):
+            expect(ask.mknod(who, place.home, b"new", kind), BADTYPE, f"kind {kind} of uid {who.uid}")
+    for kind in MADE_BY_MKNOD:
+        expect(ask.mknod(ROOT, place.home, b"new", kind, size=0), INVAL, f"{KINDS[kind]} with a size")
+    equal(ask.readdir(ROOT, place.home).value, [b".", b".."], "the names")
+
+
+def texts_of_symbolic_links(ask):
+    """Any bytes but 0, from 1 to 1,024 of them; all read them, and nobody changes them."""
+    place = Place(ask)
+    for number, text in enumerate((b"t", b"/", b"..", b"a/../b//c", b"/" + 1023 * b"t", bytes(range(1, 256)), b"none \xff there")):
+        name = b"link%d" % number
+        made = expect(ask.symlink(OTHER, place.home, name, text, mode=0), OK, f"a text of {len(text)} bytes")
+        told = ask.getattr(ROOT, made.node).attributes
+        equal((told.kind, told.links, told.size), (SYMBOLIC_LINK, 1, len(text)), "the link")
+        for who in (OTHER, GROUP, ROOT):
+            equal(expect(ask.readlink(who, made.node), OK).value, text, f"the text for uid {who.uid}")
+    before = place.state()
+    for text, status in ((b"", NOENT), (1025 * b"t", NAMETOOLONG), (2000 * b"\0", NAMETOOLONG), (b"\0", INVAL), (b"a\0", INVAL), (b"a\0b", INVAL)):
+        expect(ask.symlink(OTHER, place.home, b"new", text), status, f"a text of {len(text)} bytes")
+    expect(ask.symlink(OTHER, place.home, b"new", b"text", size=4), INVAL, "one with a size")
+    expect(ask.symlink(OTHER, place.home, b"new", b"", size=4), NOENT, "an empty one with a size")
+    equal(place.state(), before, "what is there")
+
+
+def names_are_counted(ask):
+    """Links (nlink, section 2.6): one for each name, in any directory of the volume, whoever makes it; with the last one a node goes."""
+    for kind in (REGULAR, *KINDS):
+        place = Place(ask)
+        away = place.directory(0o777, name="away")
+        node = place.file(0o600) if kind == REGULAR else place.special(kind, 0o600)
+        first = b"file" if kind == REGULAR else b"special"
+        links = lambda: ask.getattr(ROOT, node).attributes.links
+        equal(links(), 1, "the links")
+        for number, (where, who) in enumerate(((place.home, OTHER), (away, GROUP), (away, OWNER))):
+            told = expect(ask.link(who, node, where, b"name%d" % number), OK).attributes
+            equal((told.links, links()), (number + 2, number + 2), "the links")
+            equal(expect(ask.lookup(who, where, b"name%d" % number), OK).node, node, "what it names")
+        expect(ask.link(ROOT, node, away, b"name1"), EXIST)
+        # its first name goes, and then another moves, which changes no count
+        expect(ask.remove(OTHER, place.home, first), OK)
+        equal(links(), 3, "the links")
+        expect(ask.rename(OTHER, place.home, b"name0", away, b"moved"), OK)
+        equal(links(), 3, "the links")
+        place.file(0o644, name="another")
+        # over one of its names, and one of its names over another's
+        expect(ask.rename(OTHER, place.home, b"another", away, b"name1"), OK)
+        equal(links(), 2, "the links")
+        expect(ask.rename(OTHER, away, b"moved", away, b"name1"), OK)
+        expect(ask.getattr(ROOT, place.nodes["another"]), STALE)
+        equal((links(), ask.readdir(ROOT, away).value), (2, [b".", b"..", b"name1", b"name2"]), "the links and names")
+        expect(ask.remove(OTHER, away, b"name1"), OK), expect(ask.remove(OTHER, away, b"name2"), OK)
+        for told in (ask.getattr(ROOT, node), ask.link(ROOT, node, away, b"new"), ask.readlink(ROOT, node)):
+            expect(told, STALE)
+
+
+def two_names_of_one_node(ask):
+    """RENAME of one over the other is OK and changes nothing (rename): it needs x of both directories, and no more."""
+    for mode, status in ((0o777, OK), (0o111, OK), (0o1711, OK), (0o666, ACCES)):
+        place = Place(ask)
+        where = place.directory(0o777, name="where")
+        node = place.file(0o600, where=where)
+        expect(ask.link(ROOT, node, where, b"other"), OK), expect(ask.link(ROOT, node, place.home, b"beside"), OK)
+        expect(ask.setattr(ROOT, where, mode=mode), OK)
+        before = place.state()
+        for name, to, to_name in ((b"file", where, b"other"), (b"other", where, b"file"), (b"other", place.home, b"beside")):
+            expect(ask.rename(OTHER, where, name, to, to_name), status, f"{name} to {to_name}, mode {mode:04o},")
+        expect(ask.rename(OTHER, place.home, b"beside", where, b"other"), status, "into it")
+        equal(place.state(), before, "what is there")
+
+
+def kinds_that_replace_each_other(ask):
+    """RENAME: whatever is no directory takes the place of whatever is none, and of no directory; nor does a directory take its place."""
+    for one in (REGULAR, *KINDS):
+        for two in (REGULAR, *KINDS):
+            place = Place(ask)
+            node = place.file(0o600, name="one") if one == REGULAR else place.special(one, 0o600, name="one")
+            gone = place.file(0o600, name="two") if two == REGULAR else place.special(two, 0o600, name="two")
+            expect(ask.rename(OTHER, place.home, b"one", place.home, b"two"), OK, f"kind {one} over kind {two}")
+            equal(expect(ask.lookup(OTHER, place.home, b"two"), OK).node, node, "what stays")
+            expect(ask.getattr(ROOT, gone), STALE)
+        place.directory(0o777, name="directory")
+        expect(ask.rename(OTHER, place.home, b"two", place.home, b"directory"), EXIST)
+        expect(ask.rename(OTHER, place.home, b"directory", place.home, b"two"), EXIST)
+        expect(ask.rmdir(OTHER, place.home, b"two"), NOTDIR)
+        expect(ask.remove(OTHER, place.home, b"directory"), ISDIR)
+
+
+def sticky_names_are_the_node_s_owner_s(ask):
+    """In a sticky directory a name goes for the owner of what it names, and not for who made the name."""
+    place = Place(ask)
+    where = place.directory(0o1777, uid=7, gid=7, name="where")
+    node = place.file(0o666, GROUP.uid, 7, where=where)
+    expect(ask.link(OTHER, node, where, b"its maker's"), OK)
+    expect(ask.remove(OTHER, where, b"its maker's"), ACCES)
+    expect(ask.rename(OTHER, where, b"its maker's", where, b"new"), ACCES)
+    expect(ask.remove(GROUP, where, b"its maker's"), OK)
+    link = place.made("link", ask.symlink(OTHER, where, b"link", b"file"))
+    expect(ask.remove(GROUP, where, b"link"), ACCES), expect(ask.rename(GROUP, where, b"link", where, b"file"), ACCES)
+    expect(ask.remove(OTHER, where, b"link"), OK), expect(ask.readlink(OTHER, link), STALE)
+
+
+def special_files_have_attributes(ask):
+    """chmod, chown and times of what is neither a file nor a directory, as of a file; a new owner or group ends set-id bits."""
+    for kind in KINDS:
+        place = Place(ask)
+        node = place.special(kind, 0o600)
+        expect(ask.setattr(OWNER, node, mode=0o6751), OK)
+        equal(place.attributes(node), (oct(0o6751), UID, GID), KINDS[kind])
+        expect(ask.setattr(OTHER, node, mode=0o777), PERM), expect(ask.setattr(OWNER, node, uid=1001), PERM)
+        expect(ask.setattr(OWNER, node, gid=GID, mtime=CLIENT_TIME), OK)
+        equal(place.attributes(node), (oct(0o751), UID, GID), f"{KINDS[kind]} after a chgrp")
+        expect(ask.setattr(ROOT, node, uid=7, gid=8, mode=0o2644), OK)
+        equal(place.attributes(node), (oct(0o2644), 7, 8), f"{KINDS[kind]} of another")
+        expect(ask.setattr(ROOT, node, size=0), INVAL, "a size"), expect(ask.setattr(OTHER, node, size=0), ACCES, "a size by another")
+        expect(ask.setattr(ROOT, node, guard=words(1, 1), mode=0), NOT_SYNC)
+
+
+def what_of_links_comes_first(ask):
+    """LINK: STALE of the node, then ACCES, then INVAL of a directory, then what is wrong with the directory and the name."""
+    place = Place(ask)
+    closed, file = place.directory(0o700, name="closed"), place.file(0o000, name="file")
+    listed = place.directory(0o755, name="listed")
+    place.file(0o000, name="inner", where=closed), place.file(0o000, name="inner", where=listed)
+    gone = place.file(0o000, name="gone")
+    expect(ask.remove(ROOT, place.home, b"gone"), OK)
+    gone_directory = place.directory(0o777, name="gone")
+    expect(ask.rmdir(ROOT, place.home, b"gone"), OK)
+    long = 256 * b"n"
+    for node, directory, name, status in (
+        (gone, closed, b"new", STALE), (gone, file, b"new", STALE), (closed, closed, b"new", ACCES), (closed, closed, long, ACCES),
+        (file, closed, b"inner", ACCES), (closed, listed, b"new", ACCES), (closed, listed, b"inner", INVAL), (closed, listed, long, INVAL),
+        (closed, file, b"new", INVAL), (closed, gone_directory, b"new", INVAL), (file, gone_directory, b"new", STALE),
+        (file, file, b"new", NOTDIR), (file, listed, b"inner", EXIST), (file, listed, b".", EXIST), (file, listed, b"..", EXIST),
+        (file, listed, long, NAMETOOLONG), (file, listed, b"new", ACCES), (place.home, place.home, b"new", INVAL),
+    ):  # fmt: skip
+        expect(ask.link(OTHER, node, directory, name), status, f"LINK to {name[:9]}")
+    for told in (ask.symlink(OTHER, closed, b"inner", b""), ask.mknod(OTHER, closed, b"new", REGULAR), ask.symlink(OTHER, closed, long)):
+        expect(told, ACCES)
+    for told in (ask.symlink(OTHER, listed, b"inner", b""), ask.mknod(OTHER, listed, b"inner", REGULAR), ask.symlink(OTHER, listed, b".")):
+        expect(told, EXIST)
+    for told in (ask.symlink(OTHER, file, b"new", b""), ask.mknod(OTHER, file, b"new", BLOCK)):
+        expect(told, NOTDIR)
+    for told in (ask.symlink(OTHER, gone_directory, b"new"), ask.mknod(OTHER, gone_directory, b"new", BLOCK), ask.readlink(OTHER, gone)):
+        expect(told, STALE)
+    expect(ask.symlink(OTHER, place.home, long, b""), NAMETOOLONG), expect(ask.mknod(OTHER, place.home, long, REGULAR), NAMETOOLONG)
+
+
 # ---- what comes first, and what a file keeps
 
 
@@ -636,6 +858,8 @@ def owners_are_restricted(ask):
 SPECIAL = (
     owner_and_group, a_foreign_group_is_kept, set_ids_end, set_ids_end_at_a_chown, set_ids_of_directories_stay,
     set_group_id_is_for_members, over_another_s_file, exclusive_again, a_directory_that_moves, both_directories, mounts_through,
+    devices_are_for_uid_0, texts_of_symbolic_links, names_are_counted, two_names_of_one_node, kinds_that_replace_each_other,
+    sticky_names_are_the_node_s_owner_s, special_files_have_attributes, what_of_links_comes_first,
     what_comes_first, a_handle_is_enough, everywhere_in_a_file, who_owns_is_asked_anew, a_guard_comes_behind, owners_are_restricted,
 )  # fmt: skip
 

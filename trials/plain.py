@@ -6,7 +6,7 @@ has to do.
 """
 
 import results
-from results import BADHANDLE, FAILURE_PARTS, LINKS_AND_DEVICES, NOENT, NOTSUPP, OK, XDEV
+from results import BADHANDLE, FAILURE_PARTS, LINKS_AND_DEVICES, NOENT, OK, XDEV
 from xdr import NoSpelling, Reader, hyper, words
 
 MOST_OF_A_RECORD = 131_072
@@ -97,11 +97,9 @@ def arguments_of_nfs(r, procedure):
         parts = r.where()
         r.to_set()
     elif procedure == results.SYMLINK:
-        parts = r.where()
-        r.to_set()
-        parts += (r.opaque(),)
+        parts = (*r.where(), r.to_set(), r.opaque())
     elif procedure == results.MKNOD:
-        parts = (*r.where(), r.device())
+        parts = (*r.where(), r.node_to_make())
     elif procedure == results.RENAME:
         parts = r.where() + r.where()
     elif procedure == results.LINK:
@@ -170,14 +168,14 @@ class Call:
         if self.is_mount:
             told = results.mount_results(self.procedure, self.parts, self.service)
             return None if told is None else self.succeeded(told)
-        if self.procedure in LINKS_AND_DEVICES:
-            return self.failure(NOTSUPP)
         if self.node() is None:
             return self.failure(BADHANDLE)
-        if self.procedure == results.RENAME:
-            if self.node(2) is None:
+        # where the second handle of two stands
+        other = {results.RENAME: 2, results.LINK: 1}.get(self.procedure)
+        if other:
+            if self.node(other) is None:
                 return self.failure(BADHANDLE)
-            if self.node(2)[0] != self.node()[0]:
+            if self.node(other)[0] != self.node()[0]:
                 return self.failure(XDEV)
         return None
 

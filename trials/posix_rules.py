@@ -1,12 +1,14 @@
 """A file system in memory whose calls ask what POSIX and RFC 1813 let a user do, by which the rows of `permissions` are checked, and
 which is asked beside a server. It takes nothing from the program, nor from the rows.
 
-The rules: IEEE Std 1003.1, section 4.7 ("File Access Permissions"), and chmod, chown, open, rename, unlink, utimensat and write; RFC
-1813 sections 2.5, 3.3.2, 3.3.7, 3.3.8 and 4.4; and docs/SPECIFICATION.md where these leave a choice."""
+The rules: IEEE Std 1003.1, section 4.7 ("File Access Permissions"), and chmod, chown, link, mknod, open, rename, symlink, unlink,
+utimensat and write; RFC 1813 sections 2.5, 2.6, 3.3.2, 3.3.4, 3.3.5, 3.3.7, 3.3.8, 3.3.10, 3.3.11, 3.3.15 and 4.4; and
+docs/SPECIFICATION.md where these leave a choice."""
 
 from users import (
-    ACCES, CLIENT_TIME, DIRECTORY, EXCLUSIVE, EXIST, GUARDED, INVAL, ISDIR, NAMETOOLONG, NOENT, NOTDIR, NOTEMPTY, NOTSUPP, NOT_SYNC,
-    OK, PERM, REGULAR, ROFS, STALE, UNCHECKED, Attributes, Told,
+    ACCES, BADTYPE, CLIENT_TIME, DEVICES, DIRECTORY, EXCLUSIVE, EXIST, FIFO, GUARDED, INVAL, ISDIR, MADE_BY_MKNOD, MLINK, MOST_LINKS,
+    MOST_OF_A_TEXT, NAMETOOLONG, NOENT, NOTDIR, NOTEMPTY, NOT_SYNC, DEVICE_NUMBERS, OK, PERM, REGULAR, ROFS, STALE, SYMBOLIC_LINK, UNCHECKED,
+    Attributes, Told,
 )  # fmt: skip
 
 SET_UID, SET_GID, STICKY = 0o4000, 0o2000, 0o1000
@@ -27,11 +29,19 @@ class Node:
     def __init__(self, kind, mode, uid, gid):
         self.kind, self.mode, self.uid, self.gid = kind, mode, uid, gid
         self.is_there, self.parent, self.entries, self.data, self.verifier = True, None, {}, bytearray(), None
+        # how many names it has; those of a directory are counted as its links are
+        self.names = 1
         # how often it changed, as times tell of a server's
         self.changes = 0
 
+    def links(self):
+        """A directory has two, and one for each directory in it."""
+        below = sum(node.kind == DIRECTORY for node in self.entries.values())
+        return 2 + below if self.kind == DIRECTORY else self.names
+
     def attributes(self):
-        return Attributes(self.kind, self.mode, self.uid, self.gid, len(self.data))
+        device = DEVICE_NUMBERS if self.kind in DEVICES else (0, 0)
+        return Attributes(self.kind, self.mode, self.links(), self.uid, self.gid, len(self.data), device)
 
     def end_set_ids(self):
         """A file that others change isn't run as its owner, nor as its group where the group may run it."""
@@ -143,8 +153,8 @@ class Posix:
         if node.kind == REGULAR:
             size = given.get("size", len(node.data))
             node.data = node.data[:size] + bytes(max(0, size - len(node.data)))
-            if {"uid", "gid"} & given.keys() or "size" in given and not caller.is_root:
-                node.end_set_ids()
+        if node.kind != DIRECTORY and ({"uid", "gid"} & given.keys() or "size" in given and not caller.is_root):
+            node.end_set_ids()
         node.uid, node.gid = given.get("uid", node.uid), given.get("gid", node.gid)
         if "mode" in given:
             is_kept = node.kind == DIRECTORY or caller.is_root or node.gid in caller.groups
@@ -159,7 +169,9 @@ class Posix:
             changes = {"w", "x"} <= rights
             given = 1 * ("r" in rights) + 2 * ("x" in rights) + 28 * (changes and not self.reads_only)
         else:
-            given = 1 * ("r" in rights) + 12 * ("w" in rights and not self.reads_only) + 32 * ("x" in rights)
+            # what is written to a FIFO, a socket or a device changes nothing here
+            writes = "w" in rights and not (self.reads_only and node.kind in (REGULAR, SYMBOLIC_LINK))
+            given = 1 * ("r" in rights) + 12 * writes + 32 * ("x" in rights)
         return Told(OK, node, node.attributes(), given & bits)
 
     # ---- data
@@ -248,6 +260,56 @@ class Posix:
         must(name not in (b".", b"..", *directory.entries), EXIST)
         return self.made(caller, directory, name, DIRECTORY, 0o755, given)
 
+    def is_new(self, caller, directory, name):
+        """A name that isn't there, in a directory in which one may be made."""
+        self.searched(caller, directory, name)
+        must(name not in (b".", b"..", *directory.entries), EXIST)
+        caller.needs(directory, "wx")
+
+    @procedure
+    def symlink(self, user, directory, name, text=b"target", **given):
+        caller = self.changer(user)
+        self.is_new(caller, directory, name)
+        must(len(text) <= MOST_OF_A_TEXT, NAMETOOLONG)
+        must(text, NOENT)
+        must(0 not in text and "size" not in given, INVAL)
+        told = self.made(caller, directory, name, SYMBOLIC_LINK, 0o777, given)
+        told.node.data = bytearray(text)
+        return told._replace(attributes=told.node.attributes())
+
+    @procedure
+    def mknod(self, user, directory, name, kind=FIFO, **given):
+        """A device is for uid 0 (mknod)."""
+        caller = self.changer(user)
+        self.is_new(caller, directory, name)
+        must(kind not in DEVICES or caller.is_root, PERM)
+        must(kind in MADE_BY_MKNOD, BADTYPE)
+        must("size" not in given, INVAL)
+        return self.made(caller, directory, name, kind, 0o644, given)
+
+    @procedure
+    def readlink(self, _user, node):
+        there(node, SYMBOLIC_LINK, INVAL)
+        return Told(OK, node, node.attributes(), bytes(node.data))
+
+    @procedure
+    def link(self, user, node, directory, name):
+        """What has a name gets another. What the caller may do with it isn't asked."""
+        caller = self.changer(user)
+        there(node)
+        if directory.is_there and directory.kind == DIRECTORY:
+            caller.needs(directory, "x")
+            if len(name) <= 255 and name not in (b".", b"..", *directory.entries):
+                caller.needs(directory, "wx")
+        must(node.kind != DIRECTORY, INVAL)
+        self.is_new(caller, directory, name)
+        must(node.names < MOST_LINKS, MLINK)
+        directory.entries[name] = node
+        node.names += 1
+        for changed in (node, directory):
+            changed.changes += 1
+        return Told(OK, node, node.attributes())
+
     def gone(self, user, directory, name):
         """The entry that may go."""
         caller = self.changer(user)
@@ -258,13 +320,17 @@ class Posix:
         return found
 
     def drop(self, directory, name):
-        directory.entries.pop(name).is_there = False
-        directory.changes += 1
+        """A name goes, and with its last one a node."""
+        node = directory.entries.pop(name)
+        node.names -= 1
+        node.is_there = node.names > 0
+        for changed in (node, directory):
+            changed.changes += 1
         return Told(OK)
 
     @procedure
     def remove(self, user, directory, name):
-        must(self.gone(user, directory, name).kind == REGULAR, ISDIR)
+        must(self.gone(user, directory, name).kind != DIRECTORY, ISDIR)
         return self.drop(directory, name)
 
     @procedure
@@ -282,7 +348,8 @@ class Posix:
         self.searched(caller, directory, name), self.searched(caller, to, to_name)
         found, target = directory.entries.get(name), to.entries.get(to_name)
         must(found, NOENT)
-        if (directory, name) == (to, to_name):
+        # two names of one node: nothing changes (rename)
+        if found is target:
             return Told(OK)
         caller.drops(directory, found)
         caller.needs(to, "wx")
@@ -291,10 +358,11 @@ class Posix:
         if found.kind == DIRECTORY and directory is not to:
             caller.needs(found, "w")
             must(not self.is_below(to, found), INVAL)
-        must(not target or found.kind == target.kind and not target.entries, EXIST)
+        must(not target or (found.kind == DIRECTORY) == (target.kind == DIRECTORY) and not target.entries, EXIST)
         if target:
             self.drop(to, to_name)
         to.entries[to_name] = directory.entries.pop(name)
+        # of what isn't a directory nobody asks
         found.parent = to
         for changed in (found, directory, to):
             changed.changes += 1
@@ -333,7 +401,7 @@ class Posix:
         there(node, DIRECTORY, NOTDIR)
         return Told(OK, node)
 
-    # ---- what needs no right, and what nobody has
+    # ---- what needs no right
 
     fsstat = fsinfo = getattr
 
@@ -341,8 +409,3 @@ class Posix:
     def pathconf(self, _user, node):
         there(node)
         return Told(OK, node, node.attributes(), True)
-
-    def nothing(self, *_):
-        return Told(NOTSUPP)
-
-    readlink = symlink = mknod = link = nothing

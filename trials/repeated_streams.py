@@ -7,8 +7,8 @@ import socket
 from peers import SMALL, Client, Differs, Server, compare, hold, read_all, records_of, reset
 from plain import Call, Stream
 from repeats import ANN, NAMES, OK, Caller, Place, entries_of, record, status_of, take, to_set
-from results import CREATE, MKDIR, REMOVE, RENAME, RMDIR
-from xdr import opaque, words
+from results import CREATE, LINK, MKDIR, MKNOD, REMOVE, RENAME, RMDIR, SYMLINK
+from xdr import DIRECTORY, FIFO, REGULAR, SYMBOLIC_LINK, opaque, words
 
 # Of each process some places of a volume are its own, where replies are remembered: these for its calls, and as many more for those by
 # which it makes what they need.
@@ -16,6 +16,8 @@ PLACES, OWN = 65_536, 2500
 OPTIONS = (*SMALL, "--remember", str(PLACES))
 # How many rounds of some calls a process makes on connections that are cut at random.
 ROUNDS, MOST_AT_ONCE = 60, 8
+# The most calls that a client makes itself for one stream.
+MOST_OF_A_STREAM = 500
 
 
 class Bench:
@@ -25,7 +27,11 @@ class Bench:
         self.address, self.source, service, start = task
         self.client = Client(self.address, self.source, service)
         self.first, self.used = 2 * OWN * start, 0
-        self.client.xid = self.first + OWN + PLACES - self.client.peer.getsockname()[1]
+        self.begin_xids()
+
+    def begin_xids(self):
+        """The client's own calls have the first of its places again; none of them is the same as one before."""
+        self.client.xid = self.begun = self.first + OWN + PLACES - self.client.peer.getsockname()[1]
 
     def caller(self):
         return Caller(self.address, self.source, 0)
@@ -59,7 +65,7 @@ def send(caller, pieces, count):
 
 
 def cut_anywhere(bench, size):
-    """A stream of all six calls of which so many bytes come; it comes again whole, and byte by byte."""
+    """A stream of all calls that are done once, of which so many bytes come; it comes again whole, and byte by byte."""
     places = [Place(bench.client, procedure) for procedure in NAMES]
     with bench.caller() as caller:
         asked = [record(bench.xid(caller), place.procedure, place.arguments()) for place in places]
@@ -115,46 +121,62 @@ CHANGES = {"00": lambda _: 0, "ff": lambda _: 255, "its top bit turned": lambda 
 # ---- a client that makes calls until they are answered
 
 
+# What makes a node: what stands before the attributes to be set, its kind, and what stands behind them.
+MADE = {
+    CREATE: (words(1), REGULAR, b""), MKDIR: (b"", DIRECTORY, b""), SYMLINK: (b"", SYMBOLIC_LINK, opaque(b"text")),
+    MKNOD: (words(FIFO), FIFO, b""),
+}  # fmt: skip
+
+
 class Shadow:
     """A directory that one client alone changes, and the names that it has to have."""
 
     def __init__(self, bench, rng):
         self.place, self.rng, self.number = Place(bench.client, CREATE), rng, 0
-        self.files, self.directories = set(), set()
+        # the kinds of all by name, and those names that are of a file which has its first one elsewhere
+        self.kinds, self.linked = {}, set()
+        self.file = self.place.make(CREATE, self.place.other, b"file")[0]
 
     def calls(self, count):
         """So many calls, none of which depends on another, each with what it asks."""
         home, taken = self.place.home, set()
         for _ in range(count):
-            kinds = [CREATE, MKDIR]
-            files, directories = self.files - taken, self.directories - taken
-            kinds += [REMOVE, RENAME] if files else []
-            kinds += [RMDIR, RENAME] if directories else []
-            procedure = self.rng.choice(kinds)
+            choices = [*MADE, LINK]
+            there = self.kinds.keys() - taken
+            directories = {it for it in there if self.kinds[it] == DIRECTORY}
+            choices += [REMOVE, REMOVE, RENAME] if there - directories else []
+            choices += [RMDIR, RENAME] if directories else []
+            procedure = self.rng.choice(choices)
             name, new = None, None
-            if procedure in (CREATE, MKDIR, RENAME):
+            if procedure in (*MADE, LINK, RENAME):
                 self.number += 1
                 new = b"%d" % self.number
             if procedure in (REMOVE, RMDIR, RENAME):
-                those = {REMOVE: files, RMDIR: directories, RENAME: files | directories}[procedure]
+                those = {REMOVE: there - directories, RMDIR: directories, RENAME: there}[procedure]
                 name = self.rng.choice(sorted(those))
             taken |= {name, new}
             arguments = home + opaque(name or new)
             if procedure == RENAME:
                 arguments += home + opaque(new)
-            elif procedure in (CREATE, MKDIR):
-                arguments += (words(1) if procedure == CREATE else b"") + to_set(0o700)
+            elif procedure == LINK:
+                arguments = self.file + arguments
+            elif procedure in MADE:
+                before, _, behind = MADE[procedure]
+                arguments += before + to_set(0o700) + behind
             yield procedure, arguments
-            own = self.files if procedure in (CREATE, REMOVE) or name in self.files else self.directories
-            own.discard(name)
+            kind = self.kinds.pop(name) if name else REGULAR if procedure == LINK else MADE[procedure][1]
+            is_linked = procedure == LINK or name in self.linked
+            self.linked.discard(name)
             if new:
-                own.add(new)
+                self.kinds[new] = kind
+                self.linked |= {new} if is_linked else set()
 
     def is_there(self):
         entries, _ = entries_of(self.place.look())
         kinds = {name: int.from_bytes(attributes[:4], "big") for name, attributes in entries.items()}
-        wanted = {name: 1 for name in self.files} | {name: 2 for name in self.directories}
-        hold(kinds == wanted, f"the names are {kinds}, not {wanted}")
+        hold(kinds == self.kinds, f"the names are {kinds}, not {self.kinds}")
+        links = {int.from_bytes(entries[name][8:12], "big") for name in self.linked}
+        hold(links <= {1 + len(self.linked)}, f"of {len(self.linked)} names of a file and another the links are {links}")
 
 
 def until_answered(bench, caller, rng, calls):
@@ -230,6 +252,8 @@ def job(task):
 def tried(bench, streams):
     passed, failures = 0, []
     for name, way in streams:
+        if bench.client.xid > bench.begun + OWN - MOST_OF_A_STREAM:
+            bench.begin_xids()
         try:
             way()
             passed += 1

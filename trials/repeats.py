@@ -1,5 +1,5 @@
 """Clients that send calls again (RFC 1813 section 4.5): from one port, as often as their connections
-break, and the six calls that are done once."""
+break, and the nine calls that are done once."""
 
 import os
 import socket
@@ -7,19 +7,22 @@ from collections import namedtuple
 
 import results
 from peers import NFS, SECONDS, VERSIONS, hold, reset
-from results import CREATE, MKDIR, REMOVE, RENAME, RMDIR, SETATTR
-from xdr import Reader, hyper, opaque, words
+from results import CREATE, LINK, MKDIR, MKNOD, REMOVE, RENAME, RMDIR, SETATTR, SYMLINK
+from xdr import BLOCK, Reader, hyper, opaque, words
 
 EXIST, NOENT, NOT_SYNC, OK = results.EXIST, results.NOENT, 10_002, results.OK
 UNCHECKED, GUARDED, EXCLUSIVE = 0, 1, 2
 # Of each call that is done once: its name, and what it is answered where it is done twice.
 NAMES = {
     SETATTR: "SETATTR", CREATE: "CREATE", MKDIR: "MKDIR", REMOVE: "REMOVE", RMDIR: "RMDIR",
-    RENAME: "RENAME",
+    RENAME: "RENAME", SYMLINK: "SYMLINK", MKNOD: "MKNOD", LINK: "LINK",
 }  # fmt: skip
 DONE_TWICE = {
     SETATTR: NOT_SYNC, CREATE: EXIST, MKDIR: EXIST, REMOVE: NOENT, RMDIR: NOENT, RENAME: NOENT,
+    SYMLINK: EXIST, MKNOD: EXIST, LINK: EXIST,
 }  # fmt: skip
+# Those that make a node.
+MAKERS = (CREATE, MKDIR, SYMLINK, MKNOD)
 # fattr3 (section 2.6), of which the last 8 bytes are the ctime, and a reply's bytes before the status
 ATTRIBUTES, HEAD = 84, 28
 
@@ -162,6 +165,12 @@ def spelled(procedure, part):
         return where + words(part["how"]) + (part["verifier"] if part["how"] == EXCLUSIVE else part["to_set"])
     if procedure == MKDIR:
         return where + part["to_set"]
+    if procedure == SYMLINK:
+        return where + part["to_set"] + opaque(part["text"])
+    if procedure == MKNOD:
+        return where + words(part["kind"]) + part["to_set"] + part["device"]
+    if procedure == LINK:
+        return part["file"] + where
     if procedure == RENAME:
         return where + part["target"] + opaque(part["to"])
     return where
@@ -179,11 +188,13 @@ class Place:
         self.home = self.make(MKDIR, root, self.name)[0]
         self.other = self.make(MKDIR, root, b"other " + self.name)[0]
         self.part = {"directory": self.home, "target": self.home, "name": b"old", "to": b"new"}
-        if procedure in (CREATE, MKDIR):
+        if procedure in MAKERS:
             self.part |= {"name": b"new", "how": GUARDED, "to_set": to_set(0o644), "verifier": b"verifier"}
+            self.part |= {"text": b"its text", "kind": BLOCK, "device": words(8, 1)}
         else:
             old, attributes = self.make(MKDIR if procedure == RMDIR else CREATE, self.home, b"old")
             self.part |= {"file": old, "to_set": to_set(0o640), "guard": attributes[-8:]}
+            self.part |= {"name": b"new"} if procedure == LINK else {}
 
     def make(self, procedure, directory, name):
         """A file or a directory: its handle, as an argument, and its attributes."""
@@ -210,10 +221,14 @@ class Place:
             hold(entries == {b"old": after}, "the file isn't as it is told to be")
             return
         hold(own == after, "the directory isn't as it is told to be")
-        if self.procedure in (CREATE, MKDIR):
+        if self.procedure in MAKERS:
             # behind the status the handle and the attributes
             made = reply[HEAD + 4 + 28 :][4 : 4 + ATTRIBUTES]
             hold(entries == {b"new": made}, "what is made isn't as it is told to be")
+        elif self.procedure == LINK:
+            linked = reply[HEAD + 4 :][4 : 4 + ATTRIBUTES]
+            hold(entries == {b"old": linked, b"new": linked}, "what is linked isn't as it is told to be")
+            hold(linked[8:12] == words(2), f"it has {linked[8:12].hex()} links")
         else:
             wanted = [b"new"] if self.procedure == RENAME else []
             hold(list(entries) == wanted, f"the names are {list(entries)}")

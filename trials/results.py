@@ -5,10 +5,10 @@ program. Where a result follows from the call and from what else the reply tells
 what ACCESS gives from the mode, which entries a page of READDIRPLUS may have from its two counts.
 """
 
-from xdr import NoSpelling, Reader, hyper, must, opaque, words
+from xdr import DIRECTORY, MOST_LINKS, MOST_OF_A_TEXT, SYMBOLIC_LINK, NoSpelling, Reader, hyper, must, opaque, words
 
-OK, NOENT, ACCES, EXIST, XDEV, NOTDIR, INVAL, NAMETOOLONG = 0, 2, 13, 17, 18, 20, 22, 63
-STALE, BADHANDLE, BAD_COOKIE, NOTSUPP, TOOSMALL = 70, 10_001, 10_003, 10_004, 10_005
+OK, NOENT, ACCES, EXIST, XDEV, NOTDIR, INVAL, NOSPC, ROFS, MLINK = 0, 2, 13, 17, 18, 20, 22, 28, 30, 31
+PERM, NAMETOOLONG, STALE, BADHANDLE, BAD_COOKIE, TOOSMALL, BADTYPE = 1, 63, 70, 10_001, 10_003, 10_005, 10_007
 
 (
     GETATTR, SETATTR, LOOKUP, ACCESS, READLINK, READ, WRITE, CREATE, MKDIR, SYMLINK, MKNOD, REMOVE,
@@ -23,9 +23,13 @@ FAILURE_PARTS = {
     MKDIR: 2, SYMLINK: 2, MKNOD: 2, REMOVE: 2, RMDIR: 2, RENAME: 4, LINK: 3, READDIR: 1,
     READDIRPLUS: 1, FSSTAT: 1, FSINFO: 1, PATHCONF: 1, COMMIT: 2,
 }  # fmt: skip
+# What a call that makes a name may tell, whatever it makes.
+OF_A_NAME = (ACCES, EXIST, NOTDIR, INVAL, ROFS, NAMETOOLONG, STALE)
 # Of some procedures: which failures they may tell, other than those that are told at once.
 FAILURES = {
     GETATTR: (STALE,), ACCESS: (STALE,), FSSTAT: (STALE,), FSINFO: (STALE,), PATHCONF: (STALE,),
+    READLINK: (STALE, INVAL), SYMLINK: (*OF_A_NAME, NOENT, NOSPC),
+    MKNOD: (*OF_A_NAME, PERM, NOSPC, BADTYPE), LINK: (*OF_A_NAME, MLINK),
     READDIR: (STALE, NOTDIR, BAD_COOKIE, TOOSMALL),
     READDIRPLUS: (STALE, NOTDIR, BAD_COOKIE, TOOSMALL),
 }  # fmt: skip
@@ -36,11 +40,11 @@ MOST_BYTES = 65_536
 PAGE_ENDS, PLUS = 104, 116
 # FSINFO (section 3.3.19) behind the attributes: reads and writes of at most and preferably 65,536
 # bytes in multiples of 4,096, listings of 65,536, then behind the largest size of a file times by 1
-# nanosecond, FSF3_HOMOGENEOUS and FSF3_CANSETTIME.
-SIZES, TIMES_AND_PROPERTIES = words(*2 * (65_536, 65_536, 4_096), 65_536), words(0, 1, 8 + 16)
-# PATHCONF (section 3.3.20) behind the attributes: one link, names of 255 bytes, which are not cut,
+# nanosecond, FSF3_LINK, FSF3_SYMLINK, FSF3_HOMOGENEOUS and FSF3_CANSETTIME.
+SIZES, TIMES_AND_PROPERTIES = words(*2 * (65_536, 65_536, 4_096), 65_536), words(0, 1, 1 + 2 + 8 + 16)
+# PATHCONF (section 3.3.20) behind the attributes: 65,000 links, names of 255 bytes, which are not cut,
 # owners that anybody may change, and names whose case tells and is kept.
-LIMITS_OF_A_PATH = words(1, 255, 1, 0, 0, 1)
+LIMITS_OF_A_PATH = words(MOST_LINKS, 255, 1, 0, 0, 1)
 
 
 def access_given(user, asked, node):
@@ -102,10 +106,16 @@ def of_the_node(r, call):
 
 
 def made(r, call):
-    """The handle and attributes of what is made, and its directory before and after."""
+    """The attributes of what is made, behind its handle and before its directory before and after."""
     own, node = r.present(r.handle), r.present(r.attributes)
     must(own == call.service.handle(call.node()[0], node.fileid))
     r.wcc_data()
+    return node
+
+
+def is_text(data):
+    """Whether bytes may be the text of a symbolic link."""
+    return 1 <= len(data) <= MOST_OF_A_TEXT and b"\0" not in data
 
 
 def ok_arm(r, call):
@@ -131,8 +141,22 @@ def ok_arm(r, call):
         must(len(r.opaque(MOST_BYTES)) == count)
     elif procedure == WRITE:
         r.choice(0), r.choice(0), r.word(), r.choice(2), r.fixed(8)
-    elif procedure in (CREATE, MKDIR):
+    elif procedure == CREATE:
         made(r, call)
+    elif procedure == MKDIR:
+        must(made(r, call).kind == DIRECTORY)
+    elif procedure == READLINK:
+        node, text = of_the_node(r, call), r.opaque(MOST_OF_A_TEXT)
+        must(node.kind == SYMBOLIC_LINK and node.size == len(text) and is_text(text))
+    elif procedure == SYMLINK:
+        node, text = made(r, call), call.parts[-1]
+        must((node.kind, node.links, node.size) == (SYMBOLIC_LINK, 1, len(text)) and is_text(text))
+    elif procedure == MKNOD:
+        node, (kind, _given, device) = made(r, call), call.parts[2]
+        must((node.kind, node.links, node.device) == (kind, 1, device))
+    elif procedure == LINK:
+        must(of_the_node(r, call).kind != DIRECTORY)
+        r.wcc_data()
     elif procedure in (READDIR, READDIRPLUS):
         must(of_the_node(r, call).kind == 2 and r.fixed(8) == bytes(8))
         entries_are(r, call, procedure == READDIRPLUS)
@@ -249,30 +273,66 @@ def empty_page(call, volume):
     return root + bytes(8) + b"".join(told) + words(0, page == len(remaining))
 
 
+def name_fault(name):
+    """What is wrong with a name, or None."""
+    if len(name) > 255:
+        return NAMETOOLONG
+    return ACCES if not name or b"/" in name or b"\0" in name else None
+
+
 def empty_lookup(call, volume):
     """The results of LOOKUP in a root in which nothing was made, or a status."""
     name, root = call.parts[1], words(1) + root_attributes(call.service, volume)
-    if len(name) > 255:
-        return NAMETOOLONG
-    if not name or b"/" in name or b"\0" in name:
-        return ACCES
+    if name_fault(name):
+        return name_fault(name)
     if name not in (b".", b".."):
         return NOENT
     return opaque(call.service.handle(volume)) + root + root
 
 
+def text_fault(text):
+    """What is wrong with the text of a symbolic link, or None."""
+    if len(text) > MOST_OF_A_TEXT:
+        return NAMETOOLONG
+    return None if is_text(text) else INVAL if text else NOENT
+
+
+def given_fault(given):
+    """What is wrong with attributes for a node that has no size to be set: a time of 10^9 nanoseconds or more, or a size."""
+    size, nanoseconds = given
+    return INVAL if size is not None or any(it >= 10**9 for it in nanoseconds) else None
+
+
+def empty_making(call):
+    """The status of a SYMLINK or MKNOD that fails in a root in which nothing was made; None where it would succeed."""
+    _root, name, asked, *text = call.parts
+    if name_fault(name):
+        return name_fault(name)
+    if name in (b".", b".."):
+        return EXIST
+    if call.procedure == SYMLINK:
+        return text_fault(text[0]) or given_fault(asked)
+    kind, given, _device = asked
+    return BADTYPE if given is None else given_fault(given)
+
+
 # Procedures by which nothing changes, and that run by names and attributes alone.
-LOOKS = (GETATTR, LOOKUP, ACCESS, READDIR, READDIRPLUS, FSINFO, PATHCONF)
+LOOKS = (GETATTR, LOOKUP, ACCESS, READLINK, READDIR, READDIRPLUS, FSINFO, PATHCONF)
 
 
 def of_an_empty_server(call):
     """The results of a server with nothing but roots, or a status; None where that isn't said."""
     volume, fileid = call.node()
     procedure, root = call.procedure, root_attributes(call.service, volume)
-    if procedure not in LOOKS:
+    if procedure not in (*LOOKS, SYMLINK, MKNOD, LINK):
         return None
     if fileid != 1:
         return STALE
+    if procedure in (SYMLINK, MKNOD):
+        return empty_making(call)
+    if procedure in (READLINK, LINK):
+        # a root is no symbolic link, and as a directory has one name
+        return INVAL
     if procedure == GETATTR:
         return root
     if procedure == LOOKUP:

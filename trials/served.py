@@ -354,7 +354,7 @@ class Trial:
             lambda: owner.rename(f"m{number - 1}", f"n{number - 1}"),
             self.space,
             self.census,
-            *owner.further_calls(self.directories),
+            *owner.further_calls(number, self.directories),
         ]
 
     def play_round(self, number):
@@ -397,7 +397,8 @@ class Trial:
     def exact_space(self):
         """FSSTAT where no other call runs."""
         blocks = sum(len(owner.blocks) for owner in self.owners)
-        inodes = 1 + sum((owner.directory is not None) + len(owner.names) for owner in self.owners)
+        # a node may have several names
+        inodes = 1 + sum((owner.directory is not None) + len(set(owner.names.values())) for owner in self.owners)
 
         def judge(reader):
             reader.maybe(reader.attributes)

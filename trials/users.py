@@ -10,12 +10,13 @@ from collections import namedtuple
 import results
 from peers import MOUNT, SECONDS, Differs, hold
 from repeats import User, record, take, to_set
-from xdr import Reader, hyper, opaque, words
+from xdr import BLOCK, CHARACTER, DIRECTORY, FIFO, MOST_LINKS, MOST_OF_A_TEXT, REGULAR, SOCKET, SYMBOLIC_LINK, Reader, hyper, opaque, words
 
 OK, PERM, NOENT, ACCES, EXIST, NOTDIR, ISDIR, INVAL, ROFS = 0, 1, 2, 13, 17, 20, 21, 22, 30
-NAMETOOLONG, NOTEMPTY, STALE, BADHANDLE, NOT_SYNC, NOTSUPP = 63, 66, 70, 10_001, 10_002, 10_004
+MLINK, NAMETOOLONG, NOTEMPTY, STALE, BADHANDLE, NOT_SYNC, BADTYPE = 31, 63, 66, 70, 10_001, 10_002, 10_007
 UNCHECKED, GUARDED, EXCLUSIVE = 0, 1, 2
-REGULAR, DIRECTORY = 1, 2
+# What MKNOD makes, and the numbers of a device.
+DEVICES, MADE_BY_MKNOD, DEVICE_NUMBERS = (BLOCK, CHARACTER), (BLOCK, CHARACTER, SOCKET, FIFO), (8, 1)
 
 ROOT = User(0, 0, ())
 # The bits of ACCESS (section 3.3.4).
@@ -25,7 +26,7 @@ ALL_BITS = 63
 SERVER_TIME, CLIENT_TIME = words(1), words(2, 1_000_000_000, 0)
 
 
-class Attributes(namedtuple("Attributes", "kind mode uid gid size")):
+class Attributes(namedtuple("Attributes", "kind mode links uid gid size device")):
     """What rows look at of fattr3 (section 2.6)."""
 
 
@@ -34,8 +35,8 @@ class Told(namedtuple("Told", "status node attributes value", defaults=(None, No
 
 
 def attributes_in(r):
-    kind, mode, _links, uid, gid, size = struct.unpack(">5IQ", r.fixed(84)[:28])
-    return Attributes(kind, mode, uid, gid, size)
+    kind, mode, links, uid, gid, size, _used, *device = struct.unpack(">5I2Q2I", r.fixed(84)[:44])
+    return Attributes(kind, mode, links, uid, gid, size, tuple(device))
 
 
 def wcc_in(r):
@@ -45,7 +46,7 @@ def wcc_in(r):
 
 
 def node_in(r):
-    """The handle and the attributes of a node, behind CREATE and MKDIR."""
+    """The handle and the attributes of a node, behind what makes one."""
     node, attributes = r.optional(r.handle), r.optional(lambda: attributes_in(r))
     wcc_in(r)
     return Told(OK, node, attributes)
@@ -262,17 +263,24 @@ class Users:
         return self.told(user, results.COMMIT, opaque(node) + hyper(0) + words(0), read)
 
     def readlink(self, user, node):
-        return self.told(user, results.READLINK, opaque(node))
+        """The text of a symbolic link."""
+        read = lambda r: Told(OK, node, r.optional(lambda: attributes_in(r)), r.opaque())
+        return self.told(user, results.READLINK, opaque(node), read)
 
-    def symlink(self, user, directory, name):
-        return self.told(user, results.SYMLINK, opaque(directory) + opaque(name) + to_set() + opaque(b"target"))
+    def symlink(self, user, directory, name, text=b"target", **given):
+        return self.told(user, results.SYMLINK, opaque(directory) + opaque(name) + to_set(**given) + opaque(text), node_in)
 
-    def mknod(self, user, directory, name):
-        """A device."""
-        return self.told(user, results.MKNOD, opaque(directory) + opaque(name) + words(3) + to_set() + words(1, 3))
+    def mknod(self, user, directory, name, kind=FIFO, **given):
+        what = words(kind) + (to_set(**given) if kind in MADE_BY_MKNOD else b"") + (words(*DEVICE_NUMBERS) if kind in DEVICES else b"")
+        return self.told(user, results.MKNOD, opaque(directory) + opaque(name) + what, node_in)
 
     def link(self, user, node, directory, name):
-        return self.told(user, results.LINK, opaque(node) + opaque(directory) + opaque(name))
+        def read(r):
+            attributes = r.optional(lambda: attributes_in(r))
+            wcc_in(r)
+            return Told(OK, node, attributes)
+
+        return self.told(user, results.LINK, opaque(node) + opaque(directory) + opaque(name), read)
 
     def mnt(self, user, path):
         """MNT of a path below the volume's root (appendix I, section 5.2.1)."""

@@ -4,7 +4,7 @@ import random
 
 from peers import hold
 from repeats import Nobody, User
-from users import ALL_BITS, CLIENT_TIME, DIRECTORY, EXCLUSIVE, GUARDED, OK, REGULAR, ROOT, SERVER_TIME, UNCHECKED
+from users import ALL_BITS, CLIENT_TIME, DIRECTORY, EXCLUSIVE, GUARDED, OK, REGULAR, ROOT, SERVER_TIME, SYMBOLIC_LINK, UNCHECKED
 
 # Users whose groups overlap, uid 0 and the anonymous user among them, and one with group 0.
 USERS = (
@@ -12,8 +12,10 @@ USERS = (
     User(1003, 0, (100,)), User(1003, 500, (0, 200)), User(65_534, 65_534, ()), Nobody(),
 )  # fmt: skip
 UIDS, GIDS = (0, 1000, 1001, 1002, 65_534), (0, 100, 200, 300, 414, 65_534)
-NAMES = (b"a", b"b", b"c", b"d", b"e", b".", b"..")
+NAMES = (b"a", b"b", b"c", b"d", b"e", b"f", b"g", b".", b"..")
 OFFSETS = (0, 3, 5000, 70_000, 300_000)
+# Texts of symbolic links, good ones and bad ones, and kinds that MKNOD may be asked for.
+TEXTS, KINDS = (b"a", b"../b", 1024 * b"t", 1025 * b"t", b"", b"a\0b"), (1, 2, 3, 4, 5, 6, 7, 6, 7)
 # Modes that let others in are as frequent as any.
 MODES = (0o777, 0o1777, 0o2777, 0o755, 0o2775, 0o666, 0o4755, 0o6777, 0o2745, 0o700, 0o070, 0o007, 0)
 # How many nodes are remembered, some of them gone.
@@ -57,30 +59,38 @@ class Walk:
         """A procedure, the places of nodes in its arguments, which are pairs, and what it is given."""
         choose, chance = self.random.choice, self.random.random()
         name, here, file = choose(NAMES), self.of_kind(DIRECTORY), self.of_kind(REGULAR)
-        if chance < 0.16:
+        if chance < 0.13:
             how = choose((UNCHECKED, UNCHECKED, GUARDED, EXCLUSIVE))
             verifier = choose((b"11111111", b"22222222"))
             given = self.given(("size", (0, 3, 9000))) if how != EXCLUSIVE else {}
             return "create", (here, name, how, verifier), given
-        if chance < 0.26:
+        if chance < 0.20:
             return "mkdir", (here, name), self.given()
-        if chance < 0.38:
+        if chance < 0.31:
             times = (SERVER_TIME, CLIENT_TIME)
             return "setattr", (self.node(),), self.given(("size", (0, 4, 5000)), ("atime", times), ("mtime", times))
-        if chance < 0.50:
+        if chance < 0.41:
             return "write", (file, choose((b"some", b"some", b"")), choose(OFFSETS)), {}
-        if chance < 0.60:
-            return "rename", (here, name, self.of_kind(DIRECTORY), choose(NAMES[:5])), {}
+        if chance < 0.53:
+            return "rename", (here, name, self.of_kind(DIRECTORY), choose(NAMES[:7])), {}
+        if chance < 0.62:
+            return choose(("remove", "remove", "rmdir")), (here, name), {}
         if chance < 0.66:
-            return choose(("remove", "rmdir")), (here, name), {}
-        if chance < 0.72:
             return "lookup", (here, name), {}
-        if chance < 0.80:
+        if chance < 0.72:
             return "read", (file, choose(OFFSETS)), {}
-        if chance < 0.88:
+        if chance < 0.79:
             return "access", (self.node(), choose((ALL_BITS, self.random.randrange(64)))), {}
-        if chance < 0.92:
+        if chance < 0.82:
             return choose(("readdir", "readdirplus")), (here,), {}
+        if chance < 0.85:
+            return "symlink", (here, name, choose(TEXTS)), self.given()
+        if chance < 0.88:
+            return "mknod", (here, name, choose(KINDS)), self.given(*[("size", (0, 5))] * (self.random.random() < 0.2))
+        if chance < 0.94:
+            return "link", (choose((file, self.node())), here, name), {}
+        if chance < 0.96:
+            return "readlink", (self.of_kind(SYMBOLIC_LINK),), {}
         return choose(("commit", "commit", "getattr", "pathconf")), (file,), {}
 
     def is_left_out(self, procedure, arguments):

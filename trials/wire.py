@@ -7,7 +7,7 @@ from xdr import hyper, opaque, words
 
 NFS, MOUNT, ADMIN = (100003, 3), (100005, 3), (0x20000001, 1)
 SUCCESS, PROG_MISMATCH, SYSTEM_ERR = 0, 2, 5
-OK, NOENT, NOTSUPP = 0, 2, 10004
+OK, NOENT, INVAL = 0, 2, 22
 
 
 class Files:

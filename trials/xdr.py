@@ -18,6 +18,12 @@ def opaque(data):
     return words(len(data)) + data + bytes(-len(data) % 4)
 
 
+# ftype3 (section 2.6).
+REGULAR, DIRECTORY, BLOCK, CHARACTER, SYMBOLIC_LINK, SOCKET, FIFO = range(1, 8)
+# How many names what isn't a directory may have, and the bytes of a symbolic link's text.
+MOST_LINKS, MOST_OF_A_TEXT = 65_000, 1024
+
+
 class NoSpelling(Exception):
     """Bytes that spell no value of a type."""
 
@@ -91,27 +97,29 @@ class Reader:
         return self.time() if self.choice(0, 1, 2) == 2 else None
 
     def to_set(self):
-        """sattr3."""
+        """sattr3: the size and the nanoseconds of the times of the client, as far as they are given."""
         for _ in range(3):
             self.optional(self.word)
-        self.optional(self.hyper)
-        self.time_to_set()
-        self.time_to_set()
+        size = self.optional(self.hyper)
+        times = self.time_to_set(), self.time_to_set()
+        return size, [time[1] for time in times if time]
 
-    def device(self):
-        """What mknoddata3 has behind its kind (section 3.3.11)."""
+    def node_to_make(self):
+        """mknoddata3 (section 3.3.11): a kind, what is set of it, and the numbers of a device."""
         kind = self.choice(*range(1, 8))
-        if kind in (3, 4, 6, 7):
-            self.to_set()
-        if kind in (3, 4):
-            self.fixed(8)
-        return kind
+        given = self.to_set() if kind in (BLOCK, CHARACTER, SOCKET, FIFO) else None
+        return kind, given, (self.word(), self.word()) if kind in (BLOCK, CHARACTER) else (0, 0)
 
     def attributes(self):
-        """fattr3, of a file or a directory."""
-        spelled = self.fixed(84)
-        told = Attributes.read(spelled)
-        must(told.kind in (1, 2))
+        """fattr3. What isn't a directory has a link for each of its names; what is neither a file nor a directory takes no
+        block; only a symbolic link among these has a size, that of its text, and only a device has numbers."""
+        told = Attributes.read(self.fixed(84))
+        must(told.kind in range(1, 8))
+        must(told.links >= 2 if told.kind == DIRECTORY else 1 <= told.links <= MOST_LINKS)
+        must(told.device == (0, 0) or told.kind in (BLOCK, CHARACTER))
+        must(told.used == 0 or told.kind == REGULAR)
+        must(told.size == 0 or told.kind in (REGULAR, DIRECTORY, SYMBOLIC_LINK))
+        must(told.kind != SYMBOLIC_LINK or 1 <= told.size <= MOST_OF_A_TEXT)
         return told
 
     def wcc_data(self):
@@ -120,11 +128,10 @@ class Reader:
         return self.present(self.attributes)
 
 
-class Attributes(namedtuple("Attributes", "kind mode links uid gid size used fsid fileid")):
-    """What fattr3 (section 2.6) tells of a file or a directory; device numbers and times are
-    left out."""
+class Attributes(namedtuple("Attributes", "kind mode links uid gid size used device fsid fileid")):
+    """What fattr3 (section 2.6) tells of a node; times are left out."""
 
     @staticmethod
     def read(spelled):
-        *first, size, used, _device, fsid, fileid = struct.unpack(">5I5Q", spelled[:60])
-        return Attributes(*first, size, used, fsid, fileid)
+        *first, size, used, major, minor, fsid, fileid = struct.unpack(">5I2Q2I2Q", spelled[:60])
+        return Attributes(*first, size, used, (major, minor), fsid, fileid)

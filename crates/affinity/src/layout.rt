@@ -38,7 +38,8 @@ impl Layout {
     ghost use Rattle.nfs_model.specs.volume.Ranges.{IsRangeSize};
     ghost use Rattle.affinity.specs.Specification.{layout_in, spare_of, volume_sized};
     ghost use Rattle.affinity.specs.Fault.{fault_without_sizes, rule_broken};
-    ghost use Rattle.affinity.specs.Largest.{begun_of, inodes_of, largest_of, mebibytes_in, remembered_of};
+    ghost use Rattle.affinity.specs.Largest.{begun_of, inodes_of, largest_of, mebibytes_in};
+    ghost use Rattle.affinity.specs.Largest.{remembered_of};
     ghost use Rattle.affinity.specs.Largest.{root_of, steps_of};
     ghost use Rattle.nfs_values.specs.Moment.{moment_of};
     ghost use Rattle.nfs_values.specs.Ownership.{ownership_of};

@@ -3,8 +3,8 @@
 use crate::bytes::{are_equal, holds, is_handle, spelled};
 use nfs_types::{Bad, decode_args, decode_call, decode_in_place};
 use nfs_values::{
-    Call, CreateMode, MOUNT_PROGRAM, Moment, MountCall, NFS_PROGRAM, Procedure, SetAttributes,
-    SetTime, Target,
+    Call, CreateMode, Device, FileKind, MOUNT_PROGRAM, Moment, MountCall, NFS_PROGRAM, Procedure,
+    SetAttributes, SetTime, SpecialType, Target,
 };
 use std::mem;
 
@@ -48,11 +48,8 @@ const BELOW_PATH: [u32; 3] = [7, 0x2f76_6f6c, 0x312f_6100];
 /// Cookie 3, cookieverf, dircount 512 and maxcount 8192.
 const PAGE: [u32; 6] = [0, 3, 0x0102_0304, 0x0506_0708, 512, 8192];
 
-/// The numbers of a device.
-const NUMBERS: [u32; 2] = [8, 1];
-
 /// Procedures with their arguments.
-const CALLS: [(&str, Procedure, &[&[u32]]); 27] = [
+const CALLS: [(&str, Procedure, &[&[u32]]); 20] = [
     ("LOOKUP", Procedure::Lookup, &[&TARGET]),
     ("REMOVE", Procedure::Remove, &[&TARGET]),
     ("RMDIR", Procedure::RemoveDirectory, &[&TARGET]),
@@ -75,29 +72,6 @@ const CALLS: [(&str, Procedure, &[&[u32]]); 27] = [
         &[&TARGET, &SET, &PATH],
     ),
     ("LINK", Procedure::MakeLink, &[&HANDLE, &TARGET]),
-    (
-        "MKNOD, NF3BLK",
-        Procedure::MakeDevice,
-        &[&TARGET, &[3], &SET, &NUMBERS],
-    ),
-    (
-        "MKNOD, NF3CHR",
-        Procedure::MakeDevice,
-        &[&TARGET, &[4], &SET, &NUMBERS],
-    ),
-    (
-        "MKNOD, NF3SOCK",
-        Procedure::MakeDevice,
-        &[&TARGET, &[6], &SET],
-    ),
-    (
-        "MKNOD, NF3FIFO",
-        Procedure::MakeDevice,
-        &[&TARGET, &[7], &SET],
-    ),
-    ("MKNOD, NF3REG", Procedure::MakeDevice, &[&TARGET, &[1]]),
-    ("MKNOD, NF3DIR", Procedure::MakeDevice, &[&TARGET, &[2]]),
-    ("MKNOD, NF3LNK", Procedure::MakeDevice, &[&TARGET, &[5]]),
     ("MNT", Procedure::Mount, &[&VOLUME_PATH]),
     ("MNT below a root", Procedure::Mount, &[&BELOW_PATH]),
     ("DUMP", Procedure::ListMounts, &[]),
@@ -134,6 +108,15 @@ fn look_at(call: &Call) -> (bool, Procedure) {
             let is_asked = is_target(target) && *set == ASKED;
             (is_asked, Procedure::MakeDirectory)
         }
+        Call::MakeSymbolicLink { target, set, text } => {
+            let is_text = are_equal(text.as_bytes(), b"/x");
+            let is_asked = is_target(target) && *set == ASKED && is_text;
+            (is_asked, Procedure::MakeSymbolicLink)
+        }
+        Call::MakeLink { handle, target } => {
+            let is_asked = is_handle(handle, &[7]) && is_target(target);
+            (is_asked, Procedure::MakeLink)
+        }
         Call::Mount(asked) => look_at_mount(asked),
         Call::MountBelow { root, path } => {
             let is_root = is_handle(root, &[0, 0, 0, 1, 0, 0, 0, 0, 0, 0, 0, 1]);
@@ -161,6 +144,7 @@ fn look_at_handle(call: &Call) -> (bool, Procedure) {
             is_handle(handle, &[7]) && *asked == 0x8000_003F,
             Procedure::CheckAccess,
         ),
+        Call::ReadLink { handle } => (is_handle(handle, &[7]), Procedure::ReadLink),
         Call::FilesystemInfo { handle } => (is_handle(handle, &[7]), Procedure::FilesystemInfo),
         Call::PathConfiguration { handle } => {
             (is_handle(handle, &[7]), Procedure::PathConfiguration)
@@ -179,7 +163,6 @@ fn look_at_handle(call: &Call) -> (bool, Procedure) {
                 Procedure::ReadDirectoryPlus,
             )
         }
-        Call::Unsupported(which) => (true, which.procedure()),
         _ => (false, Procedure::Null),
     }
 }
@@ -214,6 +197,78 @@ fn calls_are_made(rt: HostRuntime) {
             row,
             is_asked && found as u32 == heard_as(*procedure) as u32,
         );
+    }
+}
+
+/// The numbers of a device.
+const NUMBERS: [u32; 2] = [8, 1];
+
+const DEVICE: Device = Device { major: 8, minor: 1 };
+
+/// What a MKNOD is to make, its arguments, and the kind and the attributes that they ask for.
+const NODES: [(&str, &[&[u32]], FileKind, SetAttributes); 7] = [
+    (
+        "NF3REG",
+        &[&TARGET, &[1]],
+        FileKind::Regular,
+        SetAttributes::NOTHING,
+    ),
+    (
+        "NF3DIR",
+        &[&TARGET, &[2]],
+        FileKind::Directory,
+        SetAttributes::NOTHING,
+    ),
+    (
+        "NF3BLK",
+        &[&TARGET, &[3], &SET, &NUMBERS],
+        FileKind::Special(SpecialType::BlockDevice(DEVICE)),
+        ASKED,
+    ),
+    (
+        "NF3CHR",
+        &[&TARGET, &[4], &SET, &NUMBERS],
+        FileKind::Special(SpecialType::CharacterDevice(DEVICE)),
+        ASKED,
+    ),
+    (
+        "NF3LNK",
+        &[&TARGET, &[5]],
+        FileKind::Special(SpecialType::SymbolicLink),
+        SetAttributes::NOTHING,
+    ),
+    (
+        "NF3SOCK",
+        &[&TARGET, &[6], &SET],
+        FileKind::Special(SpecialType::Socket),
+        ASKED,
+    ),
+    (
+        "NF3FIFO",
+        &[&TARGET, &[7], &SET],
+        FileKind::Special(SpecialType::Fifo),
+        ASKED,
+    ),
+];
+
+/// Whether a call is a MKNOD of this kind with these attributes.
+fn makes(call: &Call, wanted: FileKind, attributes: SetAttributes) -> bool {
+    match call {
+        Call::MakeDevice { target, kind, set } => {
+            is_target(target) && *kind == wanted && *set == attributes
+        }
+        _ => false,
+    }
+}
+
+#[test]
+fn nodes_are_made(rt: HostRuntime) {
+    for (row, parts, kind, set) in &NODES {
+        let arguments = spelled(&rt, parts);
+        let call = decode_call(rt.alloc(), Procedure::MakeDevice, &arguments).expect(&rt, row);
+        let is_made = makes(&call, *kind, *set);
+        mem::forget((arguments, call));
+        holds(&rt, row, is_made);
     }
 }
 

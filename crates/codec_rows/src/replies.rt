@@ -2,8 +2,8 @@
 
 use crate::bytes::{holds, read_answer, same, spells};
 use nfs_values::{
-    Answer, AuthFault, BytesToWrite, Call, Cookie, CreateMode, FileHandle, Fileid, Name, Named,
-    Refusal, Reply, Target, UnsupportedProcedure, Verifier, VolumeNumber,
+    Answer, AuthFault, BytesToWrite, Call, Cookie, CreateMode, FileHandle, FileKind, Fileid, Name,
+    Named, Refusal, Reply, SetAttributes, Target, Verifier, VolumeNumber,
 };
 use rpc_msg::{move_reply_record, room_of_reply, write_reply, write_reply_record};
 use std::alloc::Global;
@@ -114,12 +114,8 @@ fn rooms_are_reached(rt: HostRuntime) {
         Call::PathConfiguration { handle: root() },
         144,
     );
-    takes(
-        &rt,
-        "LINK",
-        Call::Unsupported(UnsupportedProcedure::MakeLink),
-        44,
-    );
+    // of a text of 1,024 bytes
+    takes(&rt, "READLINK", Call::ReadLink { handle: root() }, 1_148);
     let grow = Call::Grow {
         volume: VolumeNumber(0),
         ranges: 1,
@@ -151,6 +147,23 @@ fn rooms_of_writes(rt: HostRuntime) {
         to: target(rt.alloc()),
     };
     takes(&rt, "RENAME", rename, 264);
+    let symlink = Call::MakeSymbolicLink {
+        target: target(rt.alloc()),
+        set: SetAttributes::NOTHING,
+        text: Name::new(Vec::new(rt.alloc())),
+    };
+    takes(&rt, "SYMLINK", symlink, 264);
+    let mknod = Call::MakeDevice {
+        target: target(rt.alloc()),
+        kind: FileKind::Regular,
+        set: SetAttributes::NOTHING,
+    };
+    takes(&rt, "MKNOD", mknod, 264);
+    let link = Call::MakeLink {
+        handle: root(),
+        target: target(rt.alloc()),
+    };
+    takes(&rt, "LINK", link, 236);
 }
 
 #[test]

@@ -7,12 +7,13 @@ ghost use Rattle.nfs_types.specs.Results.{answer_bytes};
 use crate::bytes::{read_answer, spells};
 use nfs_types::encode_result;
 use nfs_values::answer::{
-    AccessResults, DirectoryEntry, DirectoryEntryPlus, FilesystemInfoResults,
-    PathConfigurationResults, ReadDirectoryPlusResults, ReadDirectoryResults, RenameResults,
+    AccessResults, DirectoryEntry, DirectoryEntryPlus, FilesystemInfoResults, LinkResults,
+    PathConfigurationResults, ReadDirectoryPlusResults, ReadDirectoryResults, ReadLinkResults,
+    RenameResults,
 };
 use nfs_values::{
-    Answer, Attributes, Change, Cookie, Exports, FileHandle, FileKind, Fileid, Moment,
-    MountResults, Name, Named, PriorAttributes, Status, UnsupportedProcedure, VolumeNumber,
+    Answer, Attributes, Change, Cookie, Device, Exports, FileHandle, FileKind, Fileid, Moment,
+    MountResults, Name, Named, PriorAttributes, SpecialType, Status, VolumeNumber,
 };
 use std::mem;
 use std::process::Abort;
@@ -226,18 +227,19 @@ const FILESYSTEM: FilesystemInfoResults = FilesystemInfoResults {
 };
 
 /// NFS3_OK and the directory, and then rtmax, rtpref, rtmult; wtmax, wtpref, wtmult; dtpref,
-/// maxfilesize; time_delta, properties.
+/// maxfilesize; time_delta, properties: FSF3_LINK 1, FSF3_SYMLINK 2, FSF3_HOMOGENEOUS 8 and
+/// FSF3_CANSETTIME 16.
 const FILESYSTEM_TOLD: [&[u32]; 5] = [
     &[0],
     &DIRECTORY_TOLD,
     &[0; 20],
     &[0x1_0000, 0x1_0000, 0x1000, 0x1_0000, 0x1_0000, 0x1000],
-    &[0x1_0000, 0, 0x0400_0000, 0, 1, 0x18],
+    &[0x1_0000, 0, 0x0400_0000, 0, 1, 0x1B],
 ];
 
 /// NFS3_OK and the directory, and then linkmax, name_max; no_trunc, chown_restricted,
 /// case_insensitive, case_preserving.
-const PATH_TOLD: [&[u32]; 4] = [&[0], &DIRECTORY_TOLD, &[0; 20], &[1, 0xFF, 1, 0, 0, 1]];
+const PATH_TOLD: [&[u32]; 4] = [&[0], &DIRECTORY_TOLD, &[0; 20], &[65_000, 0xFF, 1, 0, 0, 1]];
 
 #[test]
 fn directories_are_told(rt: HostRuntime) {
@@ -269,23 +271,94 @@ fn failures_leave_parts_out(rt: HostRuntime) {
     is_told(&rt, "MNT3ERR_NAMETOOLONG", long, &[&[63]]);
 }
 
-/// NFS3ERR_NOTSUPP, and each optional part absent.
-const NOT_SUPPORTED: [(&str, UnsupportedProcedure, &[u32]); 4] = [
-    ("READLINK", UnsupportedProcedure::ReadLink, &[10004, 0]),
-    (
-        "SYMLINK",
-        UnsupportedProcedure::MakeSymbolicLink,
-        &[10004, 0, 0],
-    ),
-    ("MKNOD", UnsupportedProcedure::MakeDevice, &[10004, 0, 0]),
-    ("LINK", UnsupportedProcedure::MakeLink, &[10004, 0, 0, 0]),
+#[test]
+fn failures_on_links_leave_parts_out(rt: HostRuntime) {
+    let invalid = Answer::ReadLink(Err(Status::Invalid));
+    is_told(&rt, "READLINK, NFS3ERR_INVAL", invalid, &[&[22, 0]]);
+    let long = Answer::MakeSymbolicLink(Err(Status::NameTooLong));
+    is_told(&rt, "SYMLINK, NFS3ERR_NAMETOOLONG", long, &[&[63, 0, 0]]);
+    let bad = Answer::MakeDevice(Err(Status::BadType));
+    is_told(&rt, "MKNOD, NFS3ERR_BADTYPE", bad, &[&[10007, 0, 0]]);
+    let many = Answer::MakeLink(Err(Status::TooManyLinks));
+    is_told(&rt, "LINK, NFS3ERR_MLINK", many, &[&[31, 0, 0, 0]]);
+}
+
+#[test]
+fn kinds_are_told(rt: HostRuntime) {
+    let regular = Attributes {
+        kind: FileKind::Regular,
+        ..DIRECTORY
+    };
+    let regular = Answer::GetAttributes(Ok(regular));
+    is_told(&rt, "NF3REG", regular, &[&[0, 1], &[0; 20]]);
+    let directory = Answer::GetAttributes(Ok(DIRECTORY));
+    is_told(&rt, "NF3DIR", directory, &[&[0, 2], &[0; 20]]);
+    let link = Attributes {
+        kind: FileKind::Special(SpecialType::SymbolicLink),
+        ..DIRECTORY
+    };
+    let link = Answer::GetAttributes(Ok(link));
+    is_told(&rt, "NF3LNK", link, &[&[0, 5], &[0; 20]]);
+    let socket = Attributes {
+        kind: FileKind::Special(SpecialType::Socket),
+        ..DIRECTORY
+    };
+    let socket = Answer::GetAttributes(Ok(socket));
+    is_told(&rt, "NF3SOCK", socket, &[&[0, 6], &[0; 20]]);
+    let fifo = Attributes {
+        kind: FileKind::Special(SpecialType::Fifo),
+        ..DIRECTORY
+    };
+    let fifo = Answer::GetAttributes(Ok(fifo));
+    is_told(&rt, "NF3FIFO", fifo, &[&[0, 7], &[0; 20]]);
+}
+
+const DEVICE: Device = Device { major: 8, minor: 1 };
+
+#[test]
+fn devices_are_told(rt: HostRuntime) {
+    // type; mode, nlink, uid and gid, size and used; rdev; fsid, fileid and the three times
+    let block = Attributes {
+        kind: FileKind::Special(SpecialType::BlockDevice(DEVICE)),
+        ..DIRECTORY
+    };
+    let block = Answer::GetAttributes(Ok(block));
+    let told: [&[u32]; 4] = [&[0, 3], &[0; 8], &[8, 1], &[0; 10]];
+    is_told(&rt, "NF3BLK", block, &told);
+    let character = Attributes {
+        kind: FileKind::Special(SpecialType::CharacterDevice(DEVICE)),
+        ..DIRECTORY
+    };
+    let character = Answer::GetAttributes(Ok(character));
+    let told: [&[u32]; 4] = [&[0, 4], &[0; 8], &[8, 1], &[0; 10]];
+    is_told(&rt, "NF3CHR", character, &told);
+}
+
+/// NFS3_OK, symlink_attributes, and the path of two bytes.
+const TEXT_TOLD: [&[u32]; 3] = [&[0, 1], &FILE_TOLD, &[2, 0x2f78_0000]];
+
+/// NFS3_OK, file_attributes, and the directory before and after.
+const LINKED_TOLD: [&[u32]; 5] = [
+    &[0, 1],
+    &FILE_TOLD,
+    &[1, 0, 8192, 0, 0, 0, 0],
+    &DIRECTORY_TOLD,
+    &[0; 20],
 ];
 
 #[test]
-fn what_is_not_supported_says_so(rt: HostRuntime) {
-    for (row, which, words) in &NOT_SUPPORTED {
-        is_told(&rt, row, Answer::Unsupported(*which), &[words]);
-    }
+fn links_are_told(rt: HostRuntime) {
+    let text = b"/x".to_vec(rt.alloc()).expect(&rt, "no memory");
+    let told = ReadLinkResults {
+        object: FILE,
+        text: Name::new(text),
+    };
+    is_told(&rt, "READLINK", Answer::ReadLink(Ok(told)), &TEXT_TOLD);
+    let told = LinkResults {
+        object: FILE,
+        directory: REACHED,
+    };
+    is_told(&rt, "LINK", Answer::MakeLink(Ok(told)), &LINKED_TOLD);
 }
 
 /// Each path behind TRUE, without groups: `/vol0` and `/vol1`.

@@ -72,21 +72,6 @@ impl Calls {
         &self.state.layout
     }
 
-    /// How many messages wait.
-    pub fn waiting_count(&self) -> usize
-        ensures { result ≡ length (messages_of self.now) }
-    {
-        self.state.waiting.len()
-    }
-
-    /// How many messages were begun and are neither finished nor put back.
-    pub fn running_count(&self) -> usize
-        ensures count { result ≡ running_count self.now }
-        ensures most { result + length (messages_of self.now) ≤ 1024 }
-    {
-        self.state.running
-    }
-
     /// The calls that are finished, in finishing order.
     pub fn finished(&self) -> &[FinishedCall]
         ensures { map entry_of result.now ≡ finished_of self.now }

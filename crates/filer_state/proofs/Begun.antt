@@ -35,8 +35,8 @@ stripe-begun verifier stripes largest made s is with_card =
 
 module _ (verifier : List ℕ) (stripes largest most steps : ℕ) (owner : Ownership) (begun : Moment) (size remembered : ℕ) where
   -- of these parts
-  abbrev pub logical_of : (s l m t : ℕ) → InodesValue → FinMap nat_cmp DirectoryValue → FinSet nat_cmp → DeadValue → List (Option Memo) → LogicalValue
-  logical_of s l m t inodes directories stock dead memos = record {
+  abbrev pub logical_of : (s l m t : ℕ) → InodesValue → FinMap nat_cmp DirectoryValue → FinMap nat_cmp (List ℕ) → FinSet nat_cmp → DeadValue → List (Option Memo) → LogicalValue
+  logical_of s l m t inodes directories texts stock dead memos = record {
     verifier = verifier;
     stripes = s;
     largest = l;
@@ -44,6 +44,7 @@ module _ (verifier : List ℕ) (stripes largest most steps : ℕ) (owner : Owner
     most_steps = t;
     inodes = inodes;
     directories = directories;
+    texts = texts;
     stock = stock;
     dead = dead;
     memos = memos;
@@ -51,14 +52,16 @@ module _ (verifier : List ℕ) (stripes largest most steps : ℕ) (owner : Owner
 
   pub logical-begun : (s l m t n : ℕ) → s ≡ stripes → l ≡ largest → m ≡ most → t ≡ steps → n ≡ size
       → (o : Ownership) → o ≡ owner → (b : Moment) → b ≡ begun
-      → (inodes : InodesValue) (none directories : FinMap nat_cmp DirectoryValue) (d : DirectoryValue) (stock : FinSet nat_cmp) (dead : DeadValue)
+      → (inodes : InodesValue) (none directories : FinMap nat_cmp DirectoryValue) (d : DirectoryValue) (texts : FinMap nat_cmp (List ℕ)) (stock : FinSet nat_cmp)
+      (dead : DeadValue)
       → (r : ℕ) → r ≡ remembered → (memos : List (Option Memo)) → memos ≡ replicate r None
-      → inodes ≡ opening_inodes o b → none ≡ maps.empty → d ≡ empty_directory → directories ≡ insert none root d → stock ≡ sets.empty → dead ≡ no_dead n
-      → logical_of s l m t inodes directories stock dead memos ≡ opening_logical verifier stripes largest most steps owner begun size remembered
-  logical-begun s l m t n s_is l_is m_is t_is n_is o o_is b b_is inodes none directories d stock dead r r_is memos no_memos inodes_are nothing empty with_root no_stock none_dead =
+      → inodes ≡ opening_inodes o b → none ≡ maps.empty → d ≡ empty_directory → directories ≡ insert none root d → texts ≡ maps.empty → stock ≡ sets.empty → dead ≡ no_dead n
+      → logical_of s l m t inodes directories texts stock dead memos ≡ opening_logical verifier stripes largest most steps owner begun size remembered
+  logical-begun s l m t n s_is l_is m_is t_is n_is o o_is b b_is inodes none directories d texts stock dead r r_is memos no_memos inodes_are nothing empty with_root no_texts
+      no_stock none_dead =
       let directories_are : directories ≡ from_sorted ((root, empty_directory) ∷ []) =
       with_root ∙ (λ j. insert (nothing j) root (empty j)) ∙ single-insert root empty_directory in
       let dead_is : dead ≡ no_dead size = none_dead ∙ ap no_dead n_is in
       let memos_are : memos ≡ replicate remembered None = no_memos ∙ ap (λ (n : ℕ). let m : List (Option Memo) = replicate n None in m) r_is in
       let begun_are : inodes ≡ opening_inodes owner begun = inodes_are ∙ (λ j. opening_inodes (o_is j) (b_is j)) in
-      λ j. logical_of (s_is j) (l_is j) (m_is j) (t_is j) (begun_are j) (directories_are j) (no_stock j) (dead_is j) (memos_are j)
+      λ j. logical_of (s_is j) (l_is j) (m_is j) (t_is j) (begun_are j) (directories_are j) (no_texts j) (no_stock j) (dead_is j) (memos_are j)

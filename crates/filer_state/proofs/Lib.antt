@@ -1,4 +1,4 @@
-mod DirectoryMaps
+mod FileidMaps
 mod Laid
 mod Begun
 mod Counted

@@ -1,5 +1,5 @@
 pub mod Logical
-pub mod DirectoryMap
+pub mod FileidMap
 pub mod state
 pub mod laws
 pub mod attributes

@@ -11,6 +11,7 @@ logical_value l = record {
   most_steps = l.most_steps;
   inodes = l.inodes;
   directories = l.directories;
+  texts = l.texts;
   stock = l.stock;
   dead = l.dead;
   memos = l.memos;

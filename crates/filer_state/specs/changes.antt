@@ -3,6 +3,7 @@ pub mod Attributes
 pub mod Making
 pub mod Dropping
 pub mod Renaming
+pub mod Linking
 pub mod Laws
 pub mod lemmas
 pub use Rattle.filer_state.specs.attributes.Laws as AttributeLaws

@@ -2,6 +2,7 @@ pub mod Parcels
 pub mod Contents
 pub mod Tree
 pub mod Names
+pub mod Kinds
 pub mod Protected
 pub mod WellFormed
 pub mod Partition

@@ -7,7 +7,7 @@ ghost use Rattle.std.specs.Option.{option_copied};
 ghost use Rattle.std.specs.Ordering.{nat_cmp};
 ghost use Rattle.nfs_model.specs.volume.Maps.{changed_at};
 ghost use Rattle.nfs_model.specs.volume.Directories.{added, found, removed};
-ghost use Rattle.filer_state.specs.DirectoryMap.{Changes, Puts};
+ghost use Rattle.filer_state.specs.FileidMap.{Changes, Puts};
 
 use directories::Directory;
 use nfs_values::{Fileid, Name};

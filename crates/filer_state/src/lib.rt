@@ -21,6 +21,7 @@ pub mod permissions;
 mod range;
 pub mod state;
 mod stripe;
+mod text_map;
 pub mod totals;
 
 pub use counting::ranges_used;
@@ -31,3 +32,4 @@ pub use logical::{Logical, LogicalParcel};
 pub use opening::opening_parcels;
 pub use range::RangeParcel;
 pub use stripe::StripeParcel;
+pub use text_map::TextMap;

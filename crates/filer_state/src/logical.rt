@@ -3,6 +3,7 @@
 ghost use Rattle.std.specs.Prelude.{◌≡◌, IfOk};
 
 use crate::directory_map::DirectoryMap;
+use crate::text_map::TextMap;
 use inodes::Inodes;
 use memos::Memos;
 use nfs_values::Verifier;
@@ -26,6 +27,8 @@ pub struct Logical {
     pub inodes: Inodes,
     /// By their fileids.
     pub directories: DirectoryMap,
+    /// Of symbolic links, by their fileids.
+    pub texts: TextMap,
     pub stock: Stock,
     pub dead: DeadBlocks,
     /// What is remembered of calls that may come again.

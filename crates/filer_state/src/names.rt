@@ -1,5 +1,5 @@
-//! What LOOKUP, READDIR, READDIRPLUS, COMMIT, ACCESS, FSINFO, PATHCONF and a MNT below a root come to
-//! by the parcels under Volume Logical.
+//! What LOOKUP, READDIR, READDIRPLUS, COMMIT, ACCESS, FSINFO, PATHCONF and a MNT below a root come
+//! to by the parcels under Volume Logical.
 
 mod laws;
 

@@ -3,4 +3,4 @@
 
 mod laws;
 
-pub use laws::{files_are_sized, nodes_are_made_and_dropped, nodes_are_moved};
+pub use laws::{files_are_sized, nodes_are_linked, nodes_are_made_and_dropped, nodes_are_moved};

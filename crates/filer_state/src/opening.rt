@@ -2,7 +2,8 @@
 
 ghost use Rattle.std.specs.Prelude.{◌≡◌, ◌<◌, [], IfOk, slice_get, slice_index_or};
 ghost use Rattle.affinity.specs.Affinity.{affinity_of};
-ghost use Rattle.affinity.specs.Largest.{begun_of, inodes_of, largest_of, remembered_of, root_of, steps_of};
+ghost use Rattle.affinity.specs.Largest.{begun_of, inodes_of, largest_of};
+ghost use Rattle.affinity.specs.Largest.{remembered_of, root_of, steps_of};
 ghost use Rattle.affinity.specs.Layout.{layout_of};
 ghost use Rattle.affinity.specs.Numbers.{parents};
 ghost use Rattle.affinity.specs.Tree.{IsNode};
@@ -29,6 +30,7 @@ use crate::files::Files;
 use crate::logical::{Logical, LogicalParcel};
 use crate::range::RangeParcel;
 use crate::stripe::StripeParcel;
+use crate::text_map::TextMap;
 use affinity::{Affinity, Layout};
 use directories::Directory;
 use inodes::Inodes;
@@ -139,6 +141,7 @@ fn opening_logical(
         most_steps: layout.steps_of(volume),
         inodes: Inodes::new(alloc, layout.root_of(volume), layout.begun_of(volume))?,
         directories,
+        texts: TextMap::new(alloc),
         stock: Stock::new(alloc),
         dead: DeadBlocks::new(alloc, layout.range_blocks_of(volume))?,
         memos: Memos::new(alloc, layout.remembered_of(volume))?,

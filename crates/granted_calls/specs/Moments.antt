@@ -1,19 +1,13 @@
 -- When calls run (nfstime3, RFC 1813 section 2.6).
-use Rattle.std.specs.Prelude.{◌≡◌, ℕ, ◌+◌, ◌*◌, ◌≤◌, Bool, true, false}
+use Rattle.std.specs.Prelude.{◌≡◌, ℕ, ◌+◌, ◌*◌, ◌≤◌, Bool, false}
+use Rattle.nfs_model.specs.Serial.Permission as permission
+use Rattle.nfs_values.specs.Call.{call_of}
 use Rattle.nfs_values.specs.declared.call.Call.{Call}
-use Rattle.nfs_values.specs.declared.call.Call.TheVariants as calls
 use Rattle.nfs_values.specs.declared.moment.Moment.{Moment}
 
--- whether a call changes what the server has (RFC 1813 sections 3.3.2, 3.3.7 to 3.3.9 and 3.3.12 to 3.3.14)
+-- whether a call changes what it is on (RFC 1813 sections 3.3.2 and 3.3.7 to 3.3.15), which a caller that only reads may not
 abbrev pub is_change : Call → Bool
-is_change (calls.SetAttributes handle set guard) = true
-is_change (calls.Write handle offset count bytes) = true
-is_change (calls.Create target mode) = true
-is_change (calls.MakeDirectory target set) = true
-is_change (calls.Remove target) = true
-is_change (calls.RemoveDirectory target) = true
-is_change (calls.Rename from to) = true
-is_change call = false
+is_change call = permission.is_change (call_of call)
 
 -- how many nanoseconds have passed at a moment since the start of all times
 abbrev pub nanoseconds_at : Moment → ℕ

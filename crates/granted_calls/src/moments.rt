@@ -54,9 +54,12 @@ fn is_change(call: &Call) -> bool
             | Call::Write { .. }
             | Call::Create { .. }
             | Call::MakeDirectory { .. }
+            | Call::MakeSymbolicLink { .. }
+            | Call::MakeDevice { .. }
             | Call::Remove(_)
             | Call::RemoveDirectory(_)
             | Call::Rename { .. }
+            | Call::MakeLink { .. }
     )
 }
 

@@ -5,13 +5,14 @@ use Rattle.std.specs.Ordering.{nat_cmp}
 use Rattle.std.specs.FinMap.{FinMap, get, len}
 use Rattle.nfs_model.specs.Server.{Attributes}
 use Rattle.nfs_values.specs.Moment.{moment_of}
+use Rattle.nfs_values.specs.Special.{special_of}
 use Rattle.nfs_values.specs.declared.number.Fileid.{Fileid}
 use Rattle.nfs_values.specs.declared.verifier.Verifier.{Verifier}
 use Rattle.nfs_model.specs.volume.Inodes as values
 use Rattle.nfs_model.specs.volume.Inodes.{InodesValue, filled_blocks, inodes_of_a_volume}
 use Rattle.inodes.specs.declared.inode.StoredAttributes.{StoredAttributes}
 use Rattle.inodes.specs.declared.inode.InodeKind.{InodeKind}
-use Rattle.inodes.specs.declared.inode.InodeKind.TheVariants.{RegularFile, Directory}
+use Rattle.inodes.specs.declared.inode.InodeKind.TheVariants.{RegularFile, Directory, Special}
 use Rattle.inodes.specs.declared.inode.Inode.{Inode}
 
 abbrev pub attributes_value : StoredAttributes → Attributes
@@ -27,9 +28,10 @@ attributes_value a = record {
 abbrev pub kind_value : InodeKind → values.InodeKind
 kind_value (RegularFile size filled verifier) = values.RegularFile size filled (option_map (λ (v : Verifier). v.0) verifier)
 kind_value (Directory parent subdirectories) = values.DirectoryKind parent.0 subdirectories
+kind_value (Special special size) = values.SpecialFile (special_of special) size
 
 abbrev pub inode_value : Inode → values.Inode
-inode_value i = record { attributes = attributes_value i.attributes; kind = kind_value i.kind }
+inode_value i = record { attributes = attributes_value i.attributes; names = i.names; kind = kind_value i.kind }
 
 -- an inode as it is stored, if there is one
 abbrev pub stored : Option Inode → Option values.Inode

@@ -1,1 +1,2 @@
 pub mod Inode
+pub mod Links

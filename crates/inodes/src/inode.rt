@@ -2,7 +2,7 @@
 
 ghost use Rattle.std.specs.Prelude.{◌≡◌};
 
-use nfs_values::{Fileid, Moment, Ownership, Verifier};
+use nfs_values::{Fileid, MOST_LINKS, Moment, Ownership, SpecialType, Verifier};
 
 /// What is stored of a node's attributes (fattr3, RFC 1813 section 2.6).
 #[derive(Clone, Copy, Debug, PartialEq, Eq)]
@@ -32,12 +32,20 @@ pub enum InodeKind {
         /// How many of its entries are directories.
         subdirectories: u32,
     },
+    /// A symbolic link, a FIFO, a socket or a device.
+    Special {
+        special: SpecialType,
+        /// The length of a symbolic link's text in bytes, else 0.
+        size: u32,
+    },
 }
 
 /// A node's attributes, and what a reply shows beside them (RFC 1813 section 2.6).
 #[derive(Clone, Copy, Debug, PartialEq, Eq)]
 pub struct Inode {
     pub attributes: StoredAttributes,
+    /// How many entries of directories name it; the root has none.
+    pub names: u32,
     pub kind: InodeKind,
 }
 
@@ -80,13 +88,14 @@ impl InodeKind {
     ghost use Rattle.nfs_model.specs.volume.Inodes.{filled_blocks};
     ghost use Rattle.inodes.specs.Inode.{kind_value};
 
-    /// The filled blocks of a file; a directory has none.
+    /// The filled blocks of a file; all else has none.
     pub fn filled(self) -> u32
         ensures { result ≡ filled_blocks (kind_value self) }
     {
         match self {
             InodeKind::RegularFile { filled, .. } => filled,
             InodeKind::Directory { .. } => 0,
+            InodeKind::Special { .. } => 0,
         }
     }
 }
@@ -97,6 +106,7 @@ impl Inode {
     ghost use Rattle.nfs_values.specs.Ownership.{ownership_of};
     ghost use Rattle.nfs_model.specs.volume.Inodes.{attributes_held, root_inode, settled_inode};
     ghost use Rattle.inodes.specs.Inode.{attributes_value, inode_value};
+    ghost use Rattle.inodes.specs.Links.{inode_changed, inode_with_link, inode_without_link};
 
     /// The root directory as a volume begins at a moment: who owns it is given, that moment is all
     /// its times, and it is its own parent (our profile).
@@ -112,6 +122,7 @@ impl Inode {
                 mtime: begun,
                 ctime: begun,
             },
+            names: 0,
             kind: InodeKind::Directory {
                 parent: Fileid::ROOT,
                 subdirectories: 0,
@@ -135,7 +146,51 @@ impl Inode {
     {
         Inode {
             attributes: self.attributes.with_touch(touch),
-            kind: self.kind,
+            ..self
         }
+    }
+
+    /// The inode with a touch, if there is one, as its stored mtime, and a moment as its ctime.
+    pub fn changed(self, touch: Option<Moment>, moment: Moment) -> Inode
+        ensures { inode_value result ≡
+            inode_changed (option_map moment_of touch) (moment_of moment) (inode_value self) }
+    {
+        Inode {
+            attributes: StoredAttributes {
+                ctime: moment,
+                ..self.attributes.with_touch(touch)
+            },
+            ..self
+        }
+    }
+
+    /// The inode with one more name at a moment, as `changed`, or `None` where it has as many as it
+    /// may.
+    pub fn with_link(self, touch: Option<Moment>, moment: Moment) -> Option<Inode>
+        ensures { option_map inode_value result ≡
+            inode_with_link (option_map moment_of touch) (moment_of moment) (inode_value self) }
+    {
+        if self.names >= MOST_LINKS {
+            return None;
+        }
+        Some(Inode {
+            names: self.names + 1,
+            ..self.changed(touch, moment)
+        })
+    }
+
+    /// The inode without one of its names at a moment, as `changed`, or `None` where it has no
+    /// other.
+    pub fn without_link(self, touch: Option<Moment>, moment: Moment) -> Option<Inode>
+        ensures { option_map inode_value result ≡
+            inode_without_link (option_map moment_of touch) (moment_of moment) (inode_value self) }
+    {
+        if self.names <= 1 {
+            return None;
+        }
+        Some(Inode {
+            names: self.names - 1,
+            ..self.changed(touch, moment)
+        })
     }
 }

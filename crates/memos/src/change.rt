@@ -5,15 +5,19 @@ ghost use Rattle.std.specs.Option.{option_map};
 ghost use Rattle.nfs_model.specs.Types as model;
 ghost use Rattle.nfs_model.specs.Serial.Once.{change_of, is_short};
 ghost use Rattle.nfs_values.specs.Call.{call_of};
+ghost use Rattle.nfs_values.specs.Attributes.{kind_of};
 ghost use Rattle.nfs_values.specs.Moment.{moment_of};
 ghost use Rattle.nfs_values.specs.Set.{mode_of, set_of};
-ghost use Rattle.memos.specs.Kept.{asks, change_kept, change_with, name_kept};
+ghost use Rattle.memos.specs.Kept.{asks, change_kept, change_with, name_kept, text_kept};
 
 use crate::entry::{Entry, is_short, is_whole};
-use crate::same::{is_same_guard, is_same_mode, is_same_set};
-use nfs_values::{Call, CreateMode, FileHandle, Moment, SetAttributes, Target};
+use crate::same::{is_same_guard, is_same_kind, is_same_mode, is_same_set};
+use crate::text::Text;
+use nfs_values::{
+    Call, CreateMode, FileHandle, FileKind, MOST_TEXT, Moment, Name, SetAttributes, Target,
+};
 
-/// What a call asks, but for its handles and names.
+/// What a call asks, but for its handles, names and text.
 #[derive(Clone, Copy)]
 pub(crate) enum Asked {
     /// No call is kept.
@@ -24,9 +28,15 @@ pub(crate) enum Asked {
     },
     Create(CreateMode),
     MakeDirectory(SetAttributes),
+    MakeSymbolicLink(SetAttributes),
+    MakeDevice {
+        kind: FileKind,
+        set: SetAttributes,
+    },
     Remove,
     RemoveDirectory,
     Rename,
+    MakeLink,
 }
 
 /// A call with its arguments (RFC 1813 section 3.3), or none.
@@ -35,8 +45,10 @@ pub(crate) struct KeptChange {
     asked: Asked,
     /// Its handle, with its name if it has one.
     first: Entry,
-    /// The second ones of a RENAME.
+    /// The second ones of a RENAME, and the object's handle of a LINK.
     second: Entry,
+    /// That of a SYMLINK.
+    text: Text,
 }
 
 /// Whether replies of this call may be remembered.
@@ -47,9 +59,12 @@ pub(crate) fn is_remembered(call: &Call) -> bool
         Call::SetAttributes { .. } => true,
         Call::Create { .. } => true,
         Call::MakeDirectory { .. } => true,
+        Call::MakeSymbolicLink { .. } => true,
+        Call::MakeDevice { .. } => true,
         Call::Remove(_) => true,
         Call::RemoveDirectory(_) => true,
         Call::Rename { .. } => true,
+        Call::MakeLink { .. } => true,
         _ => false,
     }
 }
@@ -60,6 +75,7 @@ impl KeptChange {
         asked: Asked::Nothing,
         first: Entry::EMPTY,
         second: Entry::EMPTY,
+        text: Text::EMPTY,
     };
 
     /// Whether it is this call.
@@ -70,9 +86,14 @@ impl KeptChange {
             Call::SetAttributes { handle, set, guard } => self.is_set(handle, set, *guard),
             Call::Create { target, mode } => self.is_creation(target, mode),
             Call::MakeDirectory { target, set } => self.is_directory_made(target, set),
+            Call::MakeSymbolicLink { target, set, text } => {
+                self.is_symbolic_link_made(target, set, text)
+            }
+            Call::MakeDevice { target, kind, set } => self.is_device_made(target, *kind, set),
             Call::Remove(target) => self.is_removal(target),
             Call::RemoveDirectory(target) => self.is_directory_removed(target),
             Call::Rename { from, to } => self.is_renaming(from, to),
+            Call::MakeLink { handle, target } => self.is_link_made(handle, target),
             _ => false,
         }
     }
@@ -113,6 +134,46 @@ impl KeptChange {
     {
         match &self.asked {
             Asked::MakeDirectory(kept) => self.first.is_of(target) && is_same_set(kept, set),
+            _ => false,
+        }
+    }
+
+    /// Whether it is a SYMLINK with these arguments.
+    fn is_symbolic_link_made(&self, target: &Target, set: &SetAttributes, text: &Name) -> bool
+        ensures { result ≡ asks (change_kept self.now) (change_of (model.Symlink
+            target.now.directory target.now.name (set_of set.now) text.now)) }
+    {
+        match &self.asked {
+            Asked::MakeSymbolicLink(kept) => {
+                self.first.is_of(target) && is_same_set(kept, set) && self.text.is(text.as_bytes())
+            }
+            _ => false,
+        }
+    }
+
+    /// Whether it is a MKNOD with these arguments.
+    fn is_device_made(&self, target: &Target, kind: FileKind, set: &SetAttributes) -> bool
+        ensures { result ≡ asks (change_kept self.now) (change_of (model.Mknod
+            target.now.directory target.now.name (kind_of kind) (set_of set.now))) }
+    {
+        match &self.asked {
+            Asked::MakeDevice {
+                kind: kept_kind,
+                set: kept,
+            } => {
+                self.first.is_of(target) && is_same_kind(*kept_kind, kind) && is_same_set(kept, set)
+            }
+            _ => false,
+        }
+    }
+
+    /// Whether it is a LINK with these arguments.
+    fn is_link_made(&self, handle: &FileHandle, target: &Target) -> bool
+        ensures { result ≡ asks (change_kept self.now) (change_of (model.Link
+            handle.now target.now.directory target.now.name)) }
+    {
+        match &self.asked {
+            Asked::MakeLink => self.second.has_handle(handle) && self.first.is_of(target),
             _ => false,
         }
     }
@@ -162,9 +223,22 @@ impl KeptChange {
             Call::MakeDirectory { target, set } => {
                 self.put_one(Asked::MakeDirectory(*set), target)
             }
+            Call::MakeSymbolicLink { target, set, text } => {
+                self.put_symbolic_link(target, set, text)
+            }
+            Call::MakeDevice { target, kind, set } => {
+                self.put_one(
+                    Asked::MakeDevice {
+                        kind: *kind,
+                        set: *set,
+                    },
+                    target,
+                )
+            }
             Call::Remove(target) => self.put_one(Asked::Remove, target),
             Call::RemoveDirectory(target) => self.put_one(Asked::RemoveDirectory, target),
             Call::Rename { from, to } => self.put_two(from, to),
+            Call::MakeLink { handle, target } => self.put_link(handle, target),
             _ => false,
         }
     }
@@ -190,7 +264,7 @@ impl KeptChange {
         ensures which { result ≡ is_short target.now.directory target.now.name }
         ensures kept { result ≡ true → change_kept self.new
             ≡ change_with asked target.now.directory target.now.name
-            self.old.second.handle (name_kept self.old.second) }
+            self.old.second.handle (name_kept self.old.second) (text_kept self.old.text) }
         ensures unchanged { result ≡ false → self.new ≡ self.old }
     {
         if !is_short(target) {
@@ -198,6 +272,41 @@ impl KeptChange {
         }
         self.asked = asked;
         self.first.put(target);
+        true
+    }
+
+    /// Keeps a SYMLINK, unless it can't succeed.
+    fn put_symbolic_link(&mut self, target: &Target, set: &SetAttributes, text: &Name) -> bool
+        ensures which { result ≡ is_some (change_of (model.Symlink
+            target.now.directory target.now.name (set_of set.now) text.now)) }
+        ensures kept { result ≡ true → change_kept self.new ≡ change_of (model.Symlink
+            target.now.directory target.now.name (set_of set.now) text.now) }
+        ensures unchanged { result ≡ false → self.new ≡ self.old }
+    {
+        let bytes = text.as_bytes();
+        if !is_short(target) || bytes.len() > MOST_TEXT {
+            return false;
+        }
+        self.asked = Asked::MakeSymbolicLink(*set);
+        self.first.put(target);
+        self.text.put(bytes);
+        true
+    }
+
+    /// Keeps a LINK, unless it can't succeed.
+    fn put_link(&mut self, handle: &FileHandle, target: &Target) -> bool
+        ensures which { result ≡ is_some (change_of (model.Link
+            handle.now target.now.directory target.now.name)) }
+        ensures kept { result ≡ true → change_kept self.new ≡ change_of (model.Link
+            handle.now target.now.directory target.now.name) }
+        ensures unchanged { result ≡ false → self.new ≡ self.old }
+    {
+        if !is_whole(handle) || !is_short(target) {
+            return false;
+        }
+        self.asked = Asked::MakeLink;
+        self.first.put(target);
+        self.second.put_handle(handle);
         true
     }
 

@@ -7,6 +7,7 @@ mod memos;
 mod place;
 mod results;
 mod same;
+mod text;
 
 pub use memos::Memos;
 pub use results::Remembered;

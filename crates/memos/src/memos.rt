@@ -85,7 +85,7 @@ fn remember_in(places: &mut [Place], caller: &Caller, call: &Call, moment: Momen
 }
 
 impl Memos {
-    /// This many places, of 976 bytes each, with nothing remembered; 0 take no memory.
+    /// This many places, of 2,032 bytes each, with nothing remembered; 0 take no memory.
     pub fn new(alloc: Global, places: u32) -> Result<Memos, AllocError>
         ensures memos { IfOk result (λ memos. memos ≡ replicate places None) }
         ensures none { places ≡ 0 → IsOk result }

@@ -7,6 +7,7 @@ ghost use Rattle.nfs_model.specs.Serial.Once.{answer_told, told_of};
 ghost use Rattle.nfs_values.specs.Answer.{
   answer_of,
   attributes_set,
+  link_made,
   name_gone,
   name_moved,
   node_made,
@@ -18,7 +19,7 @@ ghost use Rattle.nfs_values.specs.Call.{call_of};
 ghost use Rattle.memos.specs.Kept.{Keeps, told_kept};
 ghost use Rattle.memos.specs.Told.{procedure_told};
 
-use nfs_values::answer::{MakeResults, RenameResults};
+use nfs_values::answer::{LinkResults, MakeResults, RenameResults};
 use nfs_values::{
     Answer, Attributes, Call, Change, FileHandle, FileKind, Fileid, Moment, Named, PriorAttributes,
     Status, VolumeNumber,
@@ -40,6 +41,10 @@ pub(crate) enum Results {
     Renamed {
         from: Change,
         to: Change,
+    },
+    Linked {
+        object: Attributes,
+        directory: Change,
     },
 }
 
@@ -82,9 +87,12 @@ pub(crate) fn is_kept(answer: &Answer) -> bool
         Answer::SetAttributes(results) => results.is_ok(),
         Answer::Create(results) => results.is_ok(),
         Answer::MakeDirectory(results) => results.is_ok(),
+        Answer::MakeSymbolicLink(results) => results.is_ok(),
+        Answer::MakeDevice(results) => results.is_ok(),
         Answer::Remove(results) => results.is_ok(),
         Answer::RemoveDirectory(results) => results.is_ok(),
         Answer::Rename(results) => results.is_ok(),
+        Answer::MakeLink(results) => results.is_ok(),
         _ => false,
     }
 }
@@ -99,9 +107,12 @@ impl Results {
             Answer::SetAttributes(results) => self.put_set(results),
             Answer::Create(results) => self.put_made(results),
             Answer::MakeDirectory(results) => self.put_made(results),
+            Answer::MakeSymbolicLink(results) => self.put_made(results),
+            Answer::MakeDevice(results) => self.put_made(results),
             Answer::Remove(results) => self.put_gone(results),
             Answer::RemoveDirectory(results) => self.put_gone(results),
             Answer::Rename(results) => self.put_renamed(results),
+            Answer::MakeLink(results) => self.put_linked(results),
             _ => {}
         }
     }
@@ -115,7 +126,7 @@ impl Results {
         }
     }
 
-    /// Keeps those of a CREATE or MKDIR.
+    /// Keeps those of a CREATE, MKDIR, SYMLINK or MKNOD.
     fn put_made(&mut self, results: &Result<MakeResults, Status>)
         ensures { Keeps (told_of (result_of node_made 2 results.now)) (told_kept self.new) }
     {
@@ -144,6 +155,18 @@ impl Results {
             *self = Results::Renamed {
                 from: moved.from,
                 to: moved.to,
+            };
+        }
+    }
+
+    /// Keeps those of a LINK.
+    fn put_linked(&mut self, results: &Result<LinkResults, Status>)
+        ensures { Keeps (told_of (result_of link_made 3 results.now)) (told_kept self.new) }
+    {
+        if let Ok(made) = results {
+            *self = Results::Linked {
+                object: made.object,
+                directory: made.directory,
             };
         }
     }
@@ -189,6 +212,10 @@ impl<'a> Remembered<'a> {
                 from: *from,
                 to: *to,
             })),
+            Results::Linked { object, directory } => Answer::MakeLink(Ok(LinkResults {
+                object: *object,
+                directory: *directory,
+            })),
         }
     }
 }
@@ -208,6 +235,8 @@ fn made_again(object: &Attributes, directory: &Change, call: &Call, volume: Volu
     };
     match call {
         Call::MakeDirectory { .. } => Answer::MakeDirectory(Ok(made)),
+        Call::MakeSymbolicLink { .. } => Answer::MakeSymbolicLink(Ok(made)),
+        Call::MakeDevice { .. } => Answer::MakeDevice(Ok(made)),
         _ => Answer::Create(Ok(made)),
     }
 }

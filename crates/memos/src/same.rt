@@ -6,17 +6,24 @@ ghost use Rattle.nfs_model.specs.Names.{same_name};
 ghost use Rattle.nfs_model.specs.Shown.{same_moment};
 ghost use Rattle.nfs_model.specs.Serial.Same.{
   same_caller,
+  same_device,
   same_guard,
+  same_kind,
   same_mode,
   same_number,
   same_set,
+  same_special,
   same_time,
 };
+ghost use Rattle.nfs_values.specs.Attributes.{kind_of};
 ghost use Rattle.nfs_values.specs.Caller.{caller_of, peer_of};
 ghost use Rattle.nfs_values.specs.Moment.{moment_of};
 ghost use Rattle.nfs_values.specs.Set.{mode_of, set_of, time_of};
+ghost use Rattle.nfs_values.specs.Special.{device_of, special_of};
 
-use nfs_values::{Caller, CreateMode, Moment, PeerAddress, SetAttributes, SetTime};
+use nfs_values::{
+    Caller, CreateMode, Device, FileKind, Moment, PeerAddress, SetAttributes, SetTime, SpecialType,
+};
 
 /// Whether two lists of bytes are one.
 pub(crate) fn is_same_list(bytes: &[u8], other: &[u8]) -> bool
@@ -135,6 +142,45 @@ pub(crate) fn is_same_mode(one: &CreateMode, other: &CreateMode) -> bool
             CreateMode::Guarded(_) => false,
             CreateMode::Exclusive(second) => is_same_list(&verifier.0, &second.0),
         },
+    }
+}
+
+/// Whether two devices are one.
+fn is_same_device(one: Device, other: Device) -> bool
+    ensures { result ≡ same_device (device_of one) (device_of other) }
+{
+    one.major == other.major && one.minor == other.minor
+}
+
+/// Whether two calls make the same of what is neither a file nor a directory.
+fn is_same_special(one: SpecialType, other: SpecialType) -> bool
+    ensures { result ≡ same_special (special_of one) (special_of other) }
+{
+    match (one, other) {
+        (SpecialType::SymbolicLink, SpecialType::SymbolicLink) => true,
+        (SpecialType::Fifo, SpecialType::Fifo) => true,
+        (SpecialType::Socket, SpecialType::Socket) => true,
+        (SpecialType::BlockDevice(device), SpecialType::BlockDevice(second)) => {
+            is_same_device(device, second)
+        }
+        (SpecialType::CharacterDevice(device), SpecialType::CharacterDevice(second)) => {
+            is_same_device(device, second)
+        }
+        _ => false,
+    }
+}
+
+/// Whether two calls make the same kind of node.
+pub(crate) fn is_same_kind(one: FileKind, other: FileKind) -> bool
+    ensures { result ≡ same_kind (kind_of one) (kind_of other) }
+{
+    match (one, other) {
+        (FileKind::Regular, FileKind::Regular) => true,
+        (FileKind::Directory, FileKind::Directory) => true,
+        (FileKind::Special(special), FileKind::Special(second)) => {
+            is_same_special(special, second)
+        }
+        _ => false,
     }
 }
 

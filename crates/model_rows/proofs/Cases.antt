@@ -37,7 +37,7 @@ stored mode = record { mode = mode; uid = 65534; gid = 65534; atime = at 1; mtim
 
 -- an empty file of nobody, by its mode
 abbrev pub file : ℕ → Node
-file mode = File (record { attributes = stored mode; bytes = []; filled = sets.empty; touch = None; verifier = None })
+file mode = File (record { attributes = stored mode; bytes = []; filled = sets.empty; touch = None; verifier = None; links = 1 })
 
 abbrev pub entry : ℕ → List ℕ → ℕ → Listed
 entry cookie name fileid = record { cookie = cookie; name = name; fileid = fileid }

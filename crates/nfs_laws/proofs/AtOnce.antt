@@ -2,7 +2,7 @@
 use Rattle.std.proofs.Common.{◌≡◌, ℕ, zero, suc, Bool, true, false, List, [], ◌∷◌, length, Option, Some, None, is_some, slice_get, refl, sym, ap, ◌∙◌, subst}
 use Rattle.std.proofs.Common.{min, arith, ◌==◌, ◌&&◌, ◌<◌, if◌then◌else◌}
 use Rattle.std.proofs.lemmas.Bool.{ltb-true}
-use Rattle.nfs_model.specs.Types.{Moment, Caller, Call, Null, Rename, Unsupported, Census, Grow, Stop, Mount, MountBelow, Failed, CrossVolume, BadHandle}
+use Rattle.nfs_model.specs.Types.{Moment, Caller, Call, Null, Rename, Link, Census, Grow, Stop, Mount, MountBelow, Failed, CrossVolume, BadHandle}
 use Rattle.nfs_model.specs.Types.{NoEntry, Success}
 use Rattle.nfs_model.specs.Route.{Route, AtOnce, OfNames, OfBytesRead, OfBytesWritten, OfTwoHandles, OfVolume, OfAggregate, OfEverything, handle_on, route}
 use Rattle.nfs_model.specs.Tree.{Layout, VolumeLayout, Affinity, Logical}
@@ -132,12 +132,16 @@ module _ (layout : Layout) (server : Server) (caller : Caller) (moment : Moment)
   pub without_home_stays : (call : Call) → length layout.volumes ≡ length server.volumes → home layout call ≡ None
       → serve server call caller moment ≡ stay server (answer_without_home layout call)
   without_home_stays Null n e = refl
-  without_home_stays (Unsupported which) n e = refl
   without_home_stays (Rename from from_name to to_name) n e =
       two_answered server 4 _ (handle_of (length server.volumes) from) (handle_of (length server.volumes) to)
       (good server.volumes from) (good server.volumes to)
       (subst (λ k. rename_home (handle_of k from) (handle_of k to) ≡ None) n e)
       ∙ ap (λ k. stay server (answer_of_two 4 (handle_of k from) (handle_of k to))) (sym n)
+  without_home_stays (Link handle directory name) n e =
+      two_answered server 3 _ (handle_of (length server.volumes) handle) (handle_of (length server.volumes) directory)
+      (good server.volumes handle) (good server.volumes directory)
+      (subst (λ k. rename_home (handle_of k handle) (handle_of k directory) ≡ None) n e)
+      ∙ ap (λ k. stay server (answer_of_two 3 (handle_of k handle) (handle_of k directory))) (sym n)
   without_home_stays Census n e = absurd cc
   without_home_stays Stop n e = refl
   without_home_stays (Mount call) n e = ap (λ k. stay server (mount k call)) (sym n)

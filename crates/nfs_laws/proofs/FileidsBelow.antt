@@ -77,7 +77,7 @@ only_root Less k root node f e = absurd cc
 only_root Equal k root node f e = ap (λ (i : ℕ). nat_lt i 2) (f refl)
 only_root Greater k root node f e = absurd cc
 
-root_below : (root : Node) → AreBelow 2 (from_sorted ((1, root) ∷ []))
+pub root_below : (root : Node) → AreBelow 2 (from_sorted ((1, root) ∷ []))
 root_below root k node e =
     only_root (nat_cmp k 1) k root node (λ same. nat_cmp-IsAntisymmetric k 1 same) (sym (get-from_sorted nat_cmp ((1, root) ∷ []) k tt) ∙ e)
 

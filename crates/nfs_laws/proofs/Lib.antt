@@ -18,6 +18,7 @@ pub mod Refusals
 pub mod Strangers
 pub mod StrangersServed
 pub mod FileidsBelow
+pub mod LinksAgree
 pub mod Repeated
 pub mod Forgetting
 pub mod KeptByBlocks

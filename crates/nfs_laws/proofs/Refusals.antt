@@ -4,20 +4,20 @@ use Rattle.std.specs.Prelude.{◌||◌, ◌==◌, is_none, if◌then◌else◌}
 use Rattle.std.specs.FinMap.{get}
 use Rattle.nfs_model.specs.Types as model
 use Rattle.nfs_model.specs.Memo.{Told}
-use Rattle.nfs_model.specs.Server.{FileNode, DirectoryNode, Node, File, Directory, VolumeState, Server}
+use Rattle.nfs_model.specs.Server.{FileNode, DirectoryNode, Node, File, Directory, Special, VolumeState, Server}
 use Rattle.nfs_model.specs.Names.{find_name}
-use Rattle.nfs_model.specs.Locate.{Effect, Fails, unless, Found, child, Located, locate}
+use Rattle.nfs_model.specs.Locate.{Effect, Fails, unless, Found, child, is_node_of, Located, locate}
 use Rattle.nfs_model.specs.Serial.Rights.{Protection, protected, protection, Rights, is_sticky, may_search, may_list, may_read, may_write}
 use Rattle.nfs_model.specs.Serial.Rights.{without_set_ids}
-use Rattle.nfs_model.specs.Serial.Access.{bit_given, writes_given, changes_given, bits_given}
+use Rattle.nfs_model.specs.Serial.Access.{bit_given, bits_of_file, special_writes, writes_given, changes_given, bits_given}
 use Rattle.nfs_model.specs.Serial.Absent.{absent_parts}
 use Rattle.nfs_model.specs.Serial.Setattr.{given, given_mode, time_after, mode_taken, set_taken}
 use Rattle.nfs_model.specs.Serial.Write.{clears_set_ids, file_taken}
 use Rattle.nfs_model.specs.Serial.Create.{no_attributes, Maker, made_uid, checked_gid, made_gid, checked_mode, made_mode, over_taken, new_attributes}
 use Rattle.nfs_model.specs.Serial.Readdirplus.{listed_plus, listed_bare, listed_for}
 use Rattle.nfs_model.specs.Serial.Once.{told_before, or_told, once}
-use Rattle.nfs_model.specs.Serial.Permission.{needs, then_asks, of_node, of_file, of_directory, set_refusal, is_no_child, new_refusal, over_refusal}
-use Rattle.nfs_model.specs.Serial.Permission.{create_refusal, gone_refusal, target_refusal, moved_refusal, move_refusal, is_one_entry}
+use Rattle.nfs_model.specs.Serial.Permission.{needs, reserved, then_asks, of_node, of_file, of_directory, set_refusal, is_no_child, new_refusal, over_refusal}
+use Rattle.nfs_model.specs.Serial.Permission.{create_refusal, gone_refusal, target_refusal, moved_refusal, move_refusal, is_device, mknod_refusal}
 use Rattle.nfs_model.specs.Serial.MountBelow.{search_refusal}
 use Rattle.nfs_model.specs.Serial.Permission.{is_change, write_rights, refusal_by, refusal_of, refusal, write_refusal, permitted, permitted_two}
 use Rattle.nfs_model.specs.Serial.Step.{Step, stay, placed, on, on_two, changing, serve}
@@ -52,6 +52,7 @@ module _ (gid : ℕ) (gids : List ℕ) where
   over_for_zero : (mode : model.CreateMode) (node : Node) → over_refusal zero_user mode node ≡ None
   over_for_zero (model.Unchecked set) (File f) = or_true (is_none set.size)
   over_for_zero (model.Unchecked set) (Directory d) = refl
+  over_for_zero (model.Unchecked set) (Special s) = refl
   over_for_zero (model.Guarded set) node = refl
   over_for_zero (model.Exclusive verifier) node = refl
 
@@ -63,6 +64,14 @@ module _ (gid : ℕ) (gids : List ℕ) where
   new_for_zero d None = refl
   new_for_zero d (Some found) = refl
 
+  is_for_zero : (b : Bool) → reserved (b || true) ≡ None
+  is_for_zero true = refl
+  is_for_zero false = refl
+
+  mknod_for_zero : (kind : model.Kind) (d : DirectoryNode) (o : Option Found) → mknod_refusal zero_user kind (protection (Directory d)) o ≡ None
+  mknod_for_zero kind d None = is_for_zero (not (is_device kind))
+  mknod_for_zero kind d (Some found) = refl
+
   target_for_zero : (d : DirectoryNode) (o : Option Found) → target_refusal zero_user (protection (Directory d)) o ≡ None
   target_for_zero d None = refl
   target_for_zero d (Some found) = gone_for_zero d (Some found)
@@ -70,12 +79,13 @@ module _ (gid : ℕ) (gids : List ℕ) where
   moved_for_zero : (stays : Bool) (node : Node) → moved_refusal zero_user stays node ≡ None
   moved_for_zero stays (File f) = refl
   moved_for_zero stays (Directory d) = or_true stays
+  moved_for_zero stays (Special s) = refl
 
   move_for_zero : (stays : Bool) (d e : DirectoryNode) (o target : Option Found)
       → move_refusal zero_user stays (protection (Directory d)) (protection (Directory e)) o target ≡ None
   move_for_zero stays d e None target = refl
   move_for_zero stays d e (Some found) target =
-      and_then _ _ (gone_for_zero d (Some found)) (and_then _ _ (target_for_zero e target) (moved_for_zero stays found.node))
+      or_none (is_node_of found.fileid target) _ (and_then _ _ (gone_for_zero d (Some found)) (and_then _ _ (target_for_zero e target) (moved_for_zero stays found.node)))
 
   node_for_zero : (set : model.SetAttributes) (o : Option Node) → of_node o (set_refusal zero_user set) ≡ None
   node_for_zero set None = refl
@@ -85,26 +95,31 @@ module _ (gid : ℕ) (gids : List ℕ) where
   search_for_zero None = refl
   search_for_zero (Some (File f)) = refl
   search_for_zero (Some (Directory d)) = refl
+  search_for_zero (Some (Special s)) = refl
 
   list_for_zero : (o : Option Node) → of_directory o (λ d. needs (may_list zero_user (protection (Directory d)))) ≡ None
   list_for_zero None = refl
   list_for_zero (Some (File f)) = refl
   list_for_zero (Some (Directory d)) = refl
+  list_for_zero (Some (Special s)) = refl
 
   read_for_zero : (o : Option Node) → of_file o (λ file. needs (may_read zero_user file)) ≡ None
   read_for_zero None = refl
   read_for_zero (Some (File f)) = refl
   read_for_zero (Some (Directory d)) = refl
+  read_for_zero (Some (Special s)) = refl
 
   write_for_zero : (o : Option Node) → of_file o (write_rights zero_user) ≡ None
   write_for_zero None = refl
   write_for_zero (Some (File f)) = refl
   write_for_zero (Some (Directory d)) = refl
+  write_for_zero (Some (Special s)) = refl
 
   commit_for_zero : (o : Option Node) → of_file o (λ file. needs (may_read zero_user file || may_write zero_user file)) ≡ None
   commit_for_zero None = refl
   commit_for_zero (Some (File f)) = refl
   commit_for_zero (Some (Directory d)) = refl
+  commit_for_zero (Some (Special s)) = refl
 
   name_for_zero : (name : List ℕ) (volume : VolumeState) (o : Option Node) (ask : Protection → Option Found → Option model.Status)
       → ((d : DirectoryNode) (c : Option Found) → ask (protection (Directory d)) c ≡ None)
@@ -112,22 +127,31 @@ module _ (gid : ℕ) (gids : List ℕ) where
       (if is_no_child name then None else ask (protection (Directory d)) (child volume (find_name name d.list)))) ≡ None
   name_for_zero name volume None ask f = refl
   name_for_zero name volume (Some (File g)) ask f = refl
+  name_for_zero name volume (Some (Special s)) ask f = refl
   name_for_zero name volume (Some (Directory d)) ask f = or_none (is_no_child name) _ (f d (child volume (find_name name d.list)))
 
   two_for_zero : (from_name to_name : List ℕ) (volume : VolumeState) (from to : ℕ) (o p : Option Node)
       → of_directory o (λ d. of_directory p (λ e.
       then_asks (needs (may_search zero_user (protection (Directory d))))
       (then_asks (needs (may_search zero_user (protection (Directory e))))
-      (if is_no_child from_name || is_no_child to_name || is_one_entry from from_name to to_name then None
+      (if is_no_child from_name || is_no_child to_name then None
       else move_refusal zero_user (from == to) (protection (Directory d)) (protection (Directory e))
       (child volume (find_name from_name d.list)) (child volume (find_name to_name e.list)))))) ≡ None
   two_for_zero from_name to_name volume from to None p = refl
   two_for_zero from_name to_name volume from to (Some (File f)) p = refl
+  two_for_zero from_name to_name volume from to (Some (Special s)) p = refl
   two_for_zero from_name to_name volume from to (Some (Directory d)) None = refl
   two_for_zero from_name to_name volume from to (Some (Directory d)) (Some (File f)) = refl
+  two_for_zero from_name to_name volume from to (Some (Directory d)) (Some (Special s)) = refl
   two_for_zero from_name to_name volume from to (Some (Directory d)) (Some (Directory e)) =
-      or_none (is_no_child from_name || is_no_child to_name || is_one_entry from from_name to to_name) _
+      or_none (is_no_child from_name || is_no_child to_name) _
       (move_for_zero (from == to) d e (child volume (find_name from_name d.list)) (child volume (find_name to_name e.list)))
+
+  link_for_zero : (name : List ℕ) (volume : VolumeState) (o p : Option Node)
+      → of_node o (λ object. of_directory p (λ d. then_asks (needs (may_search zero_user (protection (Directory d))))
+      (if is_no_child name then None else new_refusal zero_user (protection (Directory d)) (child volume (find_name name d.list))))) ≡ None
+  link_for_zero name volume None p = refl
+  link_for_zero name volume (Some node) p = name_for_zero name volume p (new_refusal zero_user) new_for_zero
 
   call_for_zero : (call : model.Call) (volume : VolumeState) (fileid other : ℕ) → refusal_by zero_user call volume fileid other ≡ None
   call_for_zero (model.Setattr handle set guard) volume fileid other = node_for_zero set (get volume.nodes fileid)
@@ -138,6 +162,12 @@ module _ (gid : ℕ) (gids : List ℕ) where
       name_for_zero name volume (get volume.nodes fileid) (create_refusal zero_user mode) (create_for_zero mode)
   call_for_zero (model.Mkdir directory name set) volume fileid other =
       name_for_zero name volume (get volume.nodes fileid) (new_refusal zero_user) new_for_zero
+  call_for_zero (model.Symlink directory name set text) volume fileid other =
+      name_for_zero name volume (get volume.nodes fileid) (new_refusal zero_user) new_for_zero
+  call_for_zero (model.Mknod directory name kind set) volume fileid other =
+      name_for_zero name volume (get volume.nodes fileid) (mknod_refusal zero_user kind) (mknod_for_zero kind)
+  call_for_zero (model.Link handle directory name) volume fileid other =
+      link_for_zero name volume (get volume.nodes fileid) (get volume.nodes other)
   call_for_zero (model.Remove directory name) volume fileid other =
       name_for_zero name volume (get volume.nodes fileid) (gone_refusal zero_user) gone_for_zero
   call_for_zero (model.Rmdir directory name) volume fileid other =
@@ -195,6 +225,10 @@ module _ (caller : model.Caller) (f : (call : model.Call) (volume : VolumeState)
   none_refused server (model.Write handle offset count written) = none_on (model.Write handle offset count written) (locate server handle)
   none_refused server (model.Create directory name mode) = none_on (model.Create directory name mode) (locate server directory)
   none_refused server (model.Mkdir directory name set) = none_on (model.Mkdir directory name set) (locate server directory)
+  none_refused server (model.Symlink directory name set text) = none_on (model.Symlink directory name set text) (locate server directory)
+  none_refused server (model.Mknod directory name kind set) = none_on (model.Mknod directory name kind set) (locate server directory)
+  none_refused server (model.Link handle directory name) =
+      none_on_two (model.Link handle directory name) (locate server handle) (locate server directory)
   none_refused server (model.Remove directory name) = none_on (model.Remove directory name) (locate server directory)
   none_refused server (model.Rmdir directory name) = none_on (model.Rmdir directory name) (locate server directory)
   none_refused server (model.Rename from from_name to to_name) =
@@ -238,6 +272,8 @@ free_is_served server call caller free =
 pub free_sets : (caller : model.Caller) (set : model.SetAttributes) (node : Node) → caller.checked ≡ false → set_taken caller set node ≡ set
 free_sets caller set (File f) e = ap (λ b. cond b (record set { mode = mode_taken caller.credential set (protection (File f)) set.mode }) set) e
 free_sets caller set (Directory d) e = refl
+free_sets caller set (Special s) e =
+    ap (λ b. cond b (record set { mode = mode_taken caller.credential set (protection (Special s)) set.mode }) set) e
 
 pub free_sets_over : (caller : model.Caller) (set : model.SetAttributes) → caller.checked ≡ false → over_taken caller set ≡ set
 free_sets_over caller set e = ap (λ b. cond b (record no_attributes { size = set.size }) set) e
@@ -294,12 +330,17 @@ free_given_names caller r free =
     same_both true false = refl
     same_both false b = refl
 
+free_given_special : (caller : model.Caller) (special : model.SpecialType) (r : Rights) → IsFree caller → special_writes caller special r ≡ r.writes
+free_given_special caller model.SymbolicLink r free = free_given caller r free
+free_given_special caller special r free = refl
+
 pub free_has : (caller : model.Caller) (asked : ℕ) (kind : model.Kind) (r : Rights) → IsFree caller → bits_given caller asked kind r ≡ bits_of asked kind r
 free_has caller asked model.Regular r free =
-    ap (λ b. bit_given asked 1 r.reads + bit_given asked 4 b + bit_given asked 8 b + bit_given asked 32 r.executes) (free_given caller r free)
+    ap (λ b. bits_of_file asked r b) (free_given caller r free)
 free_has caller asked model.DirectoryKind r free =
     ap (λ b. bit_given asked 1 r.reads + bit_given asked 2 r.executes + bit_given asked 4 b + bit_given asked 8 b + bit_given asked 16 b)
     (free_given_names caller r free)
+free_has caller asked (model.SpecialKind special) r free = ap (λ b. bits_of_file asked r b) (free_given_special caller special r free)
 
 -- ---- calls that are refused
 
@@ -390,6 +431,12 @@ refused_fails server (model.Create directory name mode) caller moment status e n
     changing_refused server caller (model.Create directory name mode) moment status (absent_parts (model.Create directory name mode)) (locate server directory) _ e none
 refused_fails server (model.Mkdir directory name set) caller moment status e none =
     changing_refused server caller (model.Mkdir directory name set) moment status (absent_parts (model.Mkdir directory name set)) (locate server directory) _ e none
+refused_fails server (model.Symlink directory name set text) caller moment status e none =
+    changing_refused server caller (model.Symlink directory name set text) moment status (absent_parts (model.Symlink directory name set text)) (locate server directory) _ e none
+refused_fails server (model.Mknod directory name kind set) caller moment status e none =
+    changing_refused server caller (model.Mknod directory name kind set) moment status (absent_parts (model.Mknod directory name kind set)) (locate server directory) _ e none
+refused_fails server (model.Link handle directory name) caller moment status e none =
+    on_two_refused server caller (model.Link handle directory name) moment status (absent_parts (model.Link handle directory name)) (locate server handle) (locate server directory) _ e none
 refused_fails server (model.Remove directory name) caller moment status e none =
     changing_refused server caller (model.Remove directory name) moment status (absent_parts (model.Remove directory name)) (locate server directory) _ e none
 refused_fails server (model.Rmdir directory name) caller moment status e none =
@@ -413,6 +460,12 @@ refused_stays server (model.Create directory name mode) caller moment status e =
     changing_stays server caller (model.Create directory name mode) moment status (absent_parts (model.Create directory name mode)) (locate server directory) _ e
 refused_stays server (model.Mkdir directory name set) caller moment status e =
     changing_stays server caller (model.Mkdir directory name set) moment status (absent_parts (model.Mkdir directory name set)) (locate server directory) _ e
+refused_stays server (model.Symlink directory name set text) caller moment status e =
+    changing_stays server caller (model.Symlink directory name set text) moment status (absent_parts (model.Symlink directory name set text)) (locate server directory) _ e
+refused_stays server (model.Mknod directory name kind set) caller moment status e =
+    changing_stays server caller (model.Mknod directory name kind set) moment status (absent_parts (model.Mknod directory name kind set)) (locate server directory) _ e
+refused_stays server (model.Link handle directory name) caller moment status e =
+    on_two_stays server caller (model.Link handle directory name) moment status (absent_parts (model.Link handle directory name)) (locate server handle) (locate server directory) _ e
 refused_stays server (model.Remove directory name) caller moment status e =
     changing_stays server caller (model.Remove directory name) moment status (absent_parts (model.Remove directory name)) (locate server directory) _ e
 refused_stays server (model.Rmdir directory name) caller moment status e =

@@ -9,14 +9,14 @@ use Rattle.std.proofs.lemmas.List.{length-set, length-replicate}
 use Rattle.std.proofs.lemmas.Nat.{mod_below}
 use Rattle.std.proofs.lemmas.Option.{slice_get-get_or, get_or_from_slice_get}
 use Rattle.nfs_model.specs.Types as model
-use Rattle.nfs_model.specs.Memo.{Change, Sets, Creates, MakesDirectory, Removes, RemovesDirectory, Renames, Told, Memo}
+use Rattle.nfs_model.specs.Memo.{Change, Sets, Creates, MakesDirectory, MakesSymbolicLink, MakesNode, Removes, RemovesDirectory, Renames, Links, Told, Memo}
 use Rattle.nfs_model.specs.Names.{same_name}
 use Rattle.nfs_model.specs.Shown.{same_moment}
 use Rattle.nfs_model.specs.Tree.{Layout, VolumeLayout}
 use Rattle.nfs_model.specs.Server.{VolumeState, Server, Named, named_read, opening_volumes, opening}
 use Rattle.nfs_model.specs.Locate.{Effect, Fails, Tells, Changes, located_in, located_by}
 use Rattle.nfs_model.specs.Replay.{FinishedCall, step_of, server_after, replay}
-use Rattle.nfs_model.specs.Serial.Same.{same_number, same_guard, same_time, same_set, same_mode, same_change, same_caller}
+use Rattle.nfs_model.specs.Serial.Same.{same_number, same_guard, same_time, same_set, same_mode, same_change, same_caller, same_device, same_special, same_kind}
 use Rattle.nfs_model.specs.Serial.Once.{place, is_recent, is_of, told_in, told_among, told_before, answer_told, remembering, remembered, or_told}
 use Rattle.nfs_model.specs.Serial.Step.{Step, stay, placed, serve, serial}
 use Rattle.nfs_laws.specs.Repeated.{Place, memos_in, memos_of, places_in, places_of, volume_of, is_success, kept_in, remembered_in, AreElsewhere, IsAgain}
@@ -63,13 +63,31 @@ mode_itself (model.Unchecked a) = set_itself a
 mode_itself (model.Guarded a) = set_itself a
 mode_itself (model.Exclusive v) = name_itself v
 
+device_itself : (d : model.Device) → same_device d d ≡ true
+device_itself d = both _ _ (itself d.major) (itself d.minor)
+
+special_itself : (s : model.SpecialType) → same_special s s ≡ true
+special_itself model.SymbolicLink = refl
+special_itself model.Fifo = refl
+special_itself model.Socket = refl
+special_itself (model.BlockDevice device) = device_itself device
+special_itself (model.CharacterDevice device) = device_itself device
+
+kind_itself : (k : model.Kind) → same_kind k k ≡ true
+kind_itself model.Regular = refl
+kind_itself model.DirectoryKind = refl
+kind_itself (model.SpecialKind special) = special_itself special
+
 change_itself : (c : Change) → same_change c c ≡ true
 change_itself (Sets h a g) = both _ _ (both _ _ (name_itself h) (set_itself a)) (guard_itself g)
 change_itself (Creates d n m) = both _ _ (both _ _ (name_itself d) (name_itself n)) (mode_itself m)
 change_itself (MakesDirectory d n a) = both _ _ (both _ _ (name_itself d) (name_itself n)) (set_itself a)
+change_itself (MakesSymbolicLink d n a t) = both _ _ (both _ _ (both _ _ (name_itself d) (name_itself n)) (set_itself a)) (name_itself t)
+change_itself (MakesNode d n k a) = both _ _ (both _ _ (both _ _ (name_itself d) (name_itself n)) (kind_itself k)) (set_itself a)
 change_itself (Removes d n) = both _ _ (name_itself d) (name_itself n)
 change_itself (RemovesDirectory d n) = both _ _ (name_itself d) (name_itself n)
 change_itself (Renames d n e o) = both _ _ (both _ _ (both _ _ (name_itself d) (name_itself n)) (name_itself e)) (name_itself o)
+change_itself (Links h d n) = both _ _ (both _ _ (name_itself h) (name_itself d)) (name_itself n)
 
 caller_itself : (c : model.Caller) → same_caller c c ≡ true
 caller_itself c =
@@ -160,12 +178,18 @@ good_alike : (server other : Server) → numbers other ≡ numbers server → (c
 good_alike server other e (model.Setattr handle set guard) = names_alike server other e handle
 good_alike server other e (model.Create directory name mode) = names_alike server other e directory
 good_alike server other e (model.Mkdir directory name set) = names_alike server other e directory
+good_alike server other e (model.Symlink directory name set text) = names_alike server other e directory
+good_alike server other e (model.Mknod directory name kind set) = names_alike server other e directory
 good_alike server other e (model.Remove directory name) = names_alike server other e directory
 good_alike server other e (model.Rmdir directory name) = names_alike server other e directory
 good_alike server other e (model.Rename from from_name to to_name) =
     let same : Bool = (named_read from).volume == (named_read to).volume in
     ap (λ (b : Bool). b && (names_one other to && same)) (names_alike server other e from)
     ∙ ap (λ (b : Bool). names_one server from && (b && same)) (names_alike server other e to)
+good_alike server other e (model.Link handle directory name) =
+    let same : Bool = (named_read handle).volume == (named_read directory).volume in
+    ap (λ (b : Bool). b && (names_one other directory && same)) (names_alike server other e handle)
+    ∙ ap (λ (b : Bool). names_one server handle && (b && same)) (names_alike server other e directory)
 good_alike server other e call = refl
 
 -- ---- what is remembered elsewhere stays

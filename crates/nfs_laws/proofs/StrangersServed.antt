@@ -15,12 +15,12 @@ use Rattle.nfs_model.specs.Serial.Grow.{Grown, grown, grow_volume}
 use Rattle.nfs_model.specs.Serial.Once.{told_before, remembering, remembered, or_told, once}
 use Rattle.nfs_model.specs.Serial.Step.{Step, stay, placed, on, on_root, on_two, serve, serial}
 use Rattle.nfs_laws.specs.Permissions.{IsStranger, IsAskedBy, AreAskedBy, node_in, node_of, IsAsWas}
-use Rattle.nfs_laws.specs.lemmas.Effects.{Ends, ends_changes, permitted_ends, name_ends, tell_ends, getattr_ends, found_ends, read_ends, readdir_ends}
+use Rattle.nfs_laws.specs.lemmas.Effects.{Ends, ends_changes, permitted_ends, name_ends, tell_ends, getattr_ends, found_ends, readlink_ends, read_ends, readdir_ends}
 use Rattle.nfs_laws.specs.lemmas.Effects.{readdirplus_ends, fsstat_ends, commit_ends, mount_below_ends}
 use Rattle.nfs_laws.specs.lemmas.Served.{IsIn, located}
 use Rattle.nfs_laws.specs.lemmas.Sizes.{All, set_all}
 use Rattle.nfs_laws.proofs.Strangers.{Stays, Staying, staying, itself, setattr_stays, write_stays, create_stays, mkdir_stays, remove_stays, rmdir_stays}
-use Rattle.nfs_laws.proofs.Strangers.{rename_stays}
+use Rattle.nfs_laws.proofs.Strangers.{symlink_stays, mknod_stays, link_stays, rename_stays}
 
 module _ (old : Node) (i q : ℕ) where
   -- the node of a fileid in a volume stays
@@ -133,6 +133,8 @@ module _ (old : Node) (i q : ℕ) where
     serve_stays server (model.CheckAccess handle asked) h =
         on_stays server _ handle _ _ (located server handle)
         (λ v k. tell_ends (Staying old q) (staying old q) (λ object. model.AccessDone object (access_given who asked object)) v k) h
+    serve_stays server (model.Readlink handle) h =
+        on_stays server _ handle _ _ (located server handle) (readlink_ends (Staying old q) (staying old q)) h
     serve_stays server (model.Read handle offset count) h =
         on_stays server _ handle _ _ (located server handle)
         (permitted_ends (Staying old q) who (model.Read handle offset count) _ (read_ends (Staying old q) (staying old q) offset count)) h
@@ -145,6 +147,12 @@ module _ (old : Node) (i q : ℕ) where
     serve_stays server (model.Mkdir directory name set) h =
         once_stays server _ directory (locate server directory) who (model.Mkdir directory name set) moment _ (located server directory)
         (mkdir_stays old q who s directory name set moment) h
+    serve_stays server (model.Symlink directory name set text) h =
+        once_stays server _ directory (locate server directory) who (model.Symlink directory name set text) moment _ (located server directory)
+        (symlink_stays old q who s directory name set text moment) h
+    serve_stays server (model.Mknod directory name kind set) h =
+        once_stays server _ directory (locate server directory) who (model.Mknod directory name kind set) moment _ (located server directory)
+        (mknod_stays old q who s directory name kind set moment) h
     serve_stays server (model.Remove directory name) h =
         once_stays server _ directory (locate server directory) who (model.Remove directory name) moment _ (located server directory)
         (remove_stays old q who s directory name moment) h
@@ -154,6 +162,9 @@ module _ (old : Node) (i q : ℕ) where
     serve_stays server (model.Rename from from_name to to_name) h =
         two_stays server _ from (locate server from) (locate server to) who (model.Rename from from_name to to_name) moment _ (located server from)
         (rename_stays old q who s from from_name to to_name moment) h
+    serve_stays server (model.Link handle directory name) h =
+        two_stays server _ handle (locate server handle) (locate server directory) who (model.Link handle directory name) moment _ (located server handle)
+        (link_stays old q who s handle directory name moment) h
     serve_stays server (model.Readdir directory cookie verifier count) h =
         on_stays server _ directory _ _ (located server directory) (permitted_ends (Staying old q) who (model.Readdir directory cookie verifier count) _
         (readdir_ends (Staying old q) (staying old q) cookie verifier count)) h
@@ -172,7 +183,6 @@ module _ (old : Node) (i q : ℕ) where
     serve_stays server (model.Commit handle) h =
         on_stays server _ handle _ _ (located server handle)
         (permitted_ends (Staying old q) who (model.Commit handle) _ (commit_ends (Staying old q) (staying old q))) h
-    serve_stays server (model.Unsupported which) h = h
     serve_stays server model.Census h = h
     serve_stays server (model.Grow volume ranges) h = grow_stays server volume (slice_get server.volumes volume) ranges refl h
     serve_stays server model.Stop h = h

@@ -3,7 +3,7 @@ use Rattle.std.proofs.Common.{◌≡◌, ℕ, suc, ◌+◌, ◌*◌, Bool, true,
 use Rattle.std.proofs.Common.{if◌then◌else◌, nat_lt}
 use Rattle.std.specs.Prelude.{slice_index_or}
 use Rattle.std.proofs.lemmas.List.{length-set}
-use Rattle.nfs_model.specs.Types.{Moment, Caller, Call, Null, Rename, Unsupported, Census, Grow, Stop, Mount, MountBelow, Asked, Ask, Refused, Undecoded, Answer}
+use Rattle.nfs_model.specs.Types.{Moment, Caller, Call, Null, Rename, Link, Census, Grow, Stop, Mount, MountBelow, Asked, Ask, Refused, Undecoded, Answer}
 use Rattle.nfs_model.specs.Types.{Failed, GrowDone, Invalid, TooBig, NoSpace}
 use Rattle.nfs_model.specs.Route.{handle_on, route}
 use Rattle.nfs_model.specs.Tree.{Layout, VolumeLayout}
@@ -68,8 +68,8 @@ module _ (server : Server) where
 
   serve_counts : (call : Call) (caller : Caller) (moment : Moment) → volumes_in (serve server call caller moment).server ≡ volumes_in server
   serve_counts Null caller moment = refl
-  serve_counts (Unsupported which) caller moment = refl
   serve_counts (Rename from from_name to to_name) caller moment = two_counts 4 (locate server from) (locate server to) _
+  serve_counts (Link handle directory name) caller moment = two_counts 3 (locate server handle) (locate server directory) _
   serve_counts Census caller moment = refl
   serve_counts Stop caller moment = refl
   serve_counts (Mount call) caller moment = refl

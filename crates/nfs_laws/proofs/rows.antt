@@ -23,3 +23,9 @@ mod Permitted
 mod Named
 mod Owned
 mod Reading
+mod Linked
+mod Symlinks
+mod Nodes
+mod Links
+mod LinksPermitted
+mod LinksAgain

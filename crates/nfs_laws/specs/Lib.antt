@@ -3,4 +3,5 @@ pub mod Walk
 pub mod Sizes
 pub mod Repeated
 pub mod Permissions
+pub mod Links
 pub mod lemmas

@@ -3,7 +3,7 @@ use Rattle.std.specs.Prelude.{◌≡◌, ◌≢◌, ℕ, Bool, true, false, not,
 use Rattle.std.specs.Prelude.{if◌then◌else◌}
 use Rattle.nfs_model.specs.Types.{Moment, Caller, Call, Setattr, Create, Mkdir, Remove, Rmdir, Rename, Failed, Reply, Success, Asked, Ask}
 use Rattle.nfs_model.specs.Tree.{Layout, VolumeLayout}
-use Rattle.nfs_model.specs.Memo.{Change, Sets, Creates, MakesDirectory, Removes, RemovesDirectory, Renames, Memo}
+use Rattle.nfs_model.specs.Memo.{Change, Sets, Creates, MakesDirectory, MakesSymbolicLink, MakesNode, Removes, RemovesDirectory, Renames, Links, Memo}
 use Rattle.nfs_model.specs.Server.{VolumeState, Server, named_read}
 use Rattle.nfs_model.specs.Locate.{locate, on_name}
 use Rattle.nfs_model.specs.Serial.Absent.{absent_parts}
@@ -46,9 +46,12 @@ abbrev pub volume_of : Change → ℕ
 volume_of (Sets handle set guard) = (named_read handle).volume
 volume_of (Creates directory name mode) = (named_read directory).volume
 volume_of (MakesDirectory directory name set) = (named_read directory).volume
+volume_of (MakesSymbolicLink directory name set text) = (named_read directory).volume
+volume_of (MakesNode directory name kind set) = (named_read directory).volume
 volume_of (Removes directory name) = (named_read directory).volume
 volume_of (RemovesDirectory directory name) = (named_read directory).volume
 volume_of (Renames from from_name to to_name) = (named_read from).volume
+volume_of (Links handle directory name) = (named_read handle).volume
 
 -- a result with the status OK (RFC 1813 section 2.5)
 abbrev pub is_success : Reply → Bool
@@ -74,7 +77,7 @@ abbrev pub kept_in : Server → Asked → Moment → Reply → Option Place
 kept_in server (Ask call caller) moment reply = kept_of server caller (change_of call) moment reply
 kept_in server asked moment reply = None
 
--- Where the reply to a finished call is remembered from then on. None where it isn't one of the six procedures of `change_of`, was told
+-- Where the reply to a finished call is remembered from then on. None where it isn't one of the procedures of `change_of`, was told
 -- again, failed or found no memory, and where the volume has no place.
 abbrev pub remembered_in : Server → FinishedCall → Option Place
 remembered_in server e = kept_in server e.asked e.moment (step_of server e).reply

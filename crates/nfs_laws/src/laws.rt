@@ -8,8 +8,8 @@ ghost use Rattle.std.specs.FinSet.{FinSet};
 ghost use Rattle.nfs_model.specs.Types.{Call, Caller, Moment, Kind, Listed};
 ghost use Rattle.nfs_model.specs.Types.{SetAttributes, Status, Failed};
 ghost use Rattle.nfs_model.specs.Tree.{Layout};
-ghost use Rattle.nfs_model.specs.Server.{opening, FileNode, DirectoryNode, Node};
-ghost use Rattle.nfs_model.specs.Server.{File, Directory, VolumeState, Server};
+ghost use Rattle.nfs_model.specs.Server.{opening, FileNode, DirectoryNode, SpecialNode, Node};
+ghost use Rattle.nfs_model.specs.Server.{File, Directory, Special, VolumeState, Server};
 ghost use Rattle.nfs_model.specs.Locate.{Effect};
 ghost use Rattle.nfs_model.specs.Serial.Absent.{absent_parts};
 ghost use Rattle.nfs_model.specs.Serial.Rights.{Protection, protection, Rights};
@@ -37,6 +37,7 @@ ghost use Rattle.nfs_model.specs.Memo.{Change};
 ghost use Rattle.nfs_model.specs.Serial.Once.{change_of};
 ghost use Rattle.nfs_laws.specs.Repeated.{Place, memos_of, places_of, volume_of, is_success};
 ghost use Rattle.nfs_laws.specs.Repeated.{remembered_in, AreElsewhere, IsAgain, serve_forgetting};
+ghost use Rattle.nfs_laws.specs.Links.{NamesAgree};
 ghost use Rattle.nfs_laws.specs.Permissions.{refused, remembered_of, IsFree, bits_of};
 ghost use Rattle.nfs_laws.specs.Permissions.{free_attributes, MayNotWrite, MayNotChange};
 ghost use Rattle.nfs_laws.specs.Permissions.{AreAskedBy, node_of, IsAsWas};
@@ -270,6 +271,15 @@ pub fn fileids_lie_below_the_next()
         → nat_lt fileid state.next ≡ true }
 {}
 
+/// At any time of a run, each node of a volume has just as many names as its links say, a directory
+/// one, the root none; and what is named is there (nlink of fattr3, RFC 1813 section 2.6).
+pub fn names_and_links_agree()
+    ensures { (layout : Layout) (verifier : List ℕ) (calls : List FinishedCall)
+        (volume : ℕ) (state : VolumeState)
+        → slice_get (server_after (opening layout verifier) calls).volumes volume ≡ Some state
+        → NamesAgree state }
+{}
+
 /// While strangers alone call, a directory keeps its names, its mode, its owner and its group, as
 /// long as it is there: callers that are checked, are neither uid 0 nor its owner, and haven't both
 /// w and x of it. So it is on any server whose fileids are below the next one, and at any time of a
@@ -291,8 +301,8 @@ pub fn strangers_change_no_names()
         (node_of (server_after (opening layout verifier) (before ++ after)) volume fileid) }
 {}
 
-/// While strangers alone call, a file keeps its bytes, its mode, its owner and its group, as long as
-/// it is there: callers that are checked, are neither uid 0 nor its owner, and haven't w of it.
+/// While strangers alone call, a file keeps its bytes, its mode, its owner and its group, as long
+/// as it is there: callers that are checked, are neither uid 0 nor its owner, and haven't w of it.
 pub fn strangers_change_no_bytes()
     ensures any { (server : Server) (volume fileid : ℕ) (state : VolumeState) (file : FileNode)
         (calls : List FinishedCall)
@@ -307,5 +317,25 @@ pub fn strangers_change_no_bytes()
         ≡ Some (File file)
         → AreAskedBy (MayNotWrite (protection (File file))) after
         → IsAsWas (File file)
+        (node_of (server_after (opening layout verifier) (before ++ after)) volume fileid) }
+{}
+
+/// While strangers alone call, what is neither a file nor a directory keeps its kind, its text, its
+/// mode, its owner and its group, as long as it is there: callers that are checked, are neither uid
+/// 0 nor its owner, and haven't w of it.
+pub fn strangers_change_no_texts()
+    ensures any { (server : Server) (volume fileid : ℕ) (state : VolumeState)
+        (node : SpecialNode) (calls : List FinishedCall)
+        → slice_get server.volumes volume ≡ Some state
+        → get state.nodes fileid ≡ Some (Special node)
+        → nat_lt fileid state.next ≡ true
+        → AreAskedBy (MayNotWrite (protection (Special node))) calls
+        → IsAsWas (Special node) (node_of (server_after server calls) volume fileid) }
+    ensures run { (layout : Layout) (verifier : List ℕ) (before after : List FinishedCall)
+        (volume fileid : ℕ) (node : SpecialNode)
+        → node_of (server_after (opening layout verifier) before) volume fileid
+        ≡ Some (Special node)
+        → AreAskedBy (MayNotWrite (protection (Special node))) after
+        → IsAsWas (Special node)
         (node_of (server_after (opening layout verifier) (before ++ after)) volume fileid) }
 {}

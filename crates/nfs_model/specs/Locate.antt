@@ -1,9 +1,9 @@
 -- What the procedures share: what a call on a volume comes to, the first check that fails, and the
 -- node that a handle or a name stands for (RFC 1813 sections 2.5 and 2.6).
-use Rattle.std.specs.Prelude.{ℕ, List, length, Option, Some, None, slice_get}
+use Rattle.std.specs.Prelude.{ℕ, Bool, false, ◌==◌, List, length, Option, Some, None, slice_get}
 use Rattle.std.specs.FinMap.{get}
 use Rattle.nfs_model.specs.Types.{Answer, Status, Stale, NotDirectory, Invalid, Moment, Listed}
-use Rattle.nfs_model.specs.Server.{FileNode, DirectoryNode, Node, File, Directory, VolumeState, Server}
+use Rattle.nfs_model.specs.Server.{FileNode, DirectoryNode, Node, File, Directory, Special, VolumeState, Server}
 use Rattle.nfs_model.specs.Server.{Named, handle_of}
 use Rattle.nfs_model.specs.Names.{name_fault, find_name}
 
@@ -27,17 +27,19 @@ abbrev pub on_node : Option Node → (Node → Effect) → Effect
 on_node None run = Fails Stale
 on_node (Some node) run = run node
 
--- a call on a directory; STALE, or NOTDIR for a file
+-- a call on a directory; STALE, or NOTDIR for all else
 abbrev pub on_directory : Option Node → (DirectoryNode → Effect) → Effect
 on_directory None run = Fails Stale
 on_directory (Some (File f)) run = Fails NotDirectory
 on_directory (Some (Directory d)) run = run d
+on_directory (Some (Special s)) run = Fails NotDirectory
 
--- a call on a file; STALE, or INVAL for a directory
+-- a call on a regular file; STALE, or INVAL for all else
 abbrev pub on_file : Option Node → (FileNode → Effect) → Effect
 on_file None run = Fails Stale
 on_file (Some (File f)) run = run f
 on_file (Some (Directory d)) run = Fails Invalid
+on_file (Some (Special s)) run = Fails Invalid
 
 -- ---- what a handle names
 
@@ -82,6 +84,11 @@ abbrev pub child : VolumeState → Option Listed → Option Found
 child volume None = None
 child volume (Some e) = found_at e.fileid (get volume.nodes e.fileid)
 
+-- whether there is a node, and it is that of a fileid
+abbrev pub is_node_of : ℕ → Option Found → Bool
+is_node_of fileid None = false
+is_node_of fileid (Some found) = found.fileid == fileid
+
 -- A name in a directory, for a call at a moment.
 pub record Naming : Type 0 where
   pub volume : VolumeState
@@ -95,7 +102,7 @@ abbrev pub named_child : Naming → Option Found
 named_child n = child n.volume (find_name n.name n.directory.list)
 
 -- A call on a name of a directory: STALE, NOTDIR, what is wrong with the name. So begin LOOKUP,
--- CREATE, MKDIR, REMOVE and RMDIR.
+-- CREATE, MKDIR, SYMLINK, MKNOD, REMOVE and RMDIR, and LINK once its object is there.
 abbrev pub on_name : List ℕ → Moment → (Naming → Effect) → VolumeState → ℕ → Effect
 on_name name moment run volume fileid = on_directory (get volume.nodes fileid) (λ d.
     unless (name_fault name) (run (record {

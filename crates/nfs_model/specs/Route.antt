@@ -3,7 +3,7 @@
 use Rattle.std.specs.Prelude.{ℕ, List, []}
 use Rattle.nfs_model.specs.Types.{Call, Null, Getattr, Setattr, Lookup, CheckAccess, Read, Write, Create}
 use Rattle.nfs_model.specs.Types.{Mkdir, Remove, Rmdir, Rename, Readdir, Readdirplus, Fsstat, Fsinfo, Pathconf}
-use Rattle.nfs_model.specs.Types.{Commit, Unsupported, Census, Grow, Stop, Mount, MountBelow}
+use Rattle.nfs_model.specs.Types.{Commit, Readlink, Symlink, Mknod, Link, Census, Grow, Stop, Mount, MountBelow}
 
 pub data Route : Type 0 where
   -- on no state
@@ -14,7 +14,7 @@ pub data Route : Type 0 where
   OfBytesRead : (handle : List ℕ) (offset count : ℕ) → Route
   -- bytes of a file, which are written where they lie or above
   OfBytesWritten : (handle : List ℕ) (offset count : ℕ) → Route
-  -- names in two directories
+  -- names and attributes of one volume, which two handles name
   OfTwoHandles : (from to : List ℕ) → Route
   -- a whole volume, which a handle names
   OfVolume : (handle : List ℕ) → Route
@@ -30,20 +30,23 @@ route (Getattr handle) = OfNames handle
 route (Setattr handle set guard) = OfNames handle
 route (Lookup directory name) = OfNames directory
 route (CheckAccess handle asked) = OfNames handle
+route (Readlink handle) = OfNames handle
 route (Read handle offset count) = OfBytesRead handle offset count
 route (Write handle offset count written) = OfBytesWritten handle offset count
 route (Create directory name mode) = OfNames directory
 route (Mkdir directory name set) = OfNames directory
+route (Symlink directory name set text) = OfNames directory
+route (Mknod directory name kind set) = OfNames directory
 route (Remove directory name) = OfNames directory
 route (Rmdir directory name) = OfNames directory
 route (Rename from from_name to to_name) = OfTwoHandles from to
+route (Link handle directory name) = OfTwoHandles handle directory
 route (Readdir directory cookie verifier count) = OfNames directory
 route (Readdirplus directory cookie verifier names_count count) = OfNames directory
 route (Fsstat handle) = OfVolume handle
 route (Fsinfo handle) = OfNames handle
 route (Pathconf handle) = OfNames handle
 route (Commit handle) = OfNames handle
-route (Unsupported which) = AtOnce
 route Census = OfEverything
 route (Grow volume ranges) = OfAggregate volume
 route Stop = AtOnce

@@ -2,17 +2,22 @@
 -- of our profile.
 pub mod Absent
 pub mod Rights
+pub mod Links
 pub mod Getattr
 pub mod Setattr
 pub mod Lookup
 pub mod Access
+pub mod Readlink
 pub mod Read
 pub mod Write
 pub mod Create
 pub mod Mkdir
+pub mod Symlink
+pub mod Mknod
 pub mod Remove
 pub mod Rmdir
 pub mod Rename
+pub mod Link
 pub mod Readdir
 pub mod Readdirplus
 pub mod Fsstat

@@ -6,7 +6,7 @@ use Rattle.std.specs.Ordering.{nat_cmp}
 use Rattle.std.specs.FinMap.{FinMap, entries, from_sorted}
 use Rattle.std.specs.FinSet.{FinSet}
 use Rattle.std.specs.FinSet as sets
-use Rattle.nfs_model.specs.Types.{Moment, Ownership, Listed}
+use Rattle.nfs_model.specs.Types.{Moment, Ownership, SpecialType, Listed}
 use Rattle.nfs_model.specs.Tree.{Layout, VolumeLayout}
 use Rattle.nfs_model.specs.Memo.{Memo}
 
@@ -26,6 +26,7 @@ pub record FileNode : Type 0 where
   pub filled : FinSet nat_cmp  -- the numbers of the blocks that are there
   pub touch : Option Moment  -- the latest write since the times were last set
   pub verifier : Option (List ℕ)  -- of the exclusive creation
+  pub links : ℕ  -- how many names it has
 
 -- a directory; `.` and `..` aren't in its list
 pub record DirectoryNode : Type 0 where
@@ -34,10 +35,18 @@ pub record DirectoryNode : Type 0 where
   pub next : ℕ  -- the next cookie
   pub list : List Listed  -- by rising cookies
 
+-- a symbolic link, a FIFO, a socket or a device
+pub record SpecialNode : Type 0 where
+  pub attributes : Attributes
+  pub special : SpecialType
+  pub text : List ℕ  -- of a symbolic link; all else has none
+  pub links : ℕ  -- how many names it has
+
 -- an inode
 pub data Node : Type 0 where
   File : (file : FileNode) → Node
   Directory : (directory : DirectoryNode) → Node
+  Special : (node : SpecialNode) → Node
 
 -- A file system: its nodes by fileid (RFC 1813 section 2.5). Fileids grow and aren't used again.
 pub record VolumeState : Type 0 where
@@ -122,10 +131,11 @@ opening layout verifier = record { spare = layout.spare; volumes = opening_volum
 
 -- ---- counts
 
--- the blocks of a node; a directory has none
+-- the blocks of a node; only files have some
 abbrev pub filled_in : Node → ℕ
 filled_in (File f) = sets.len f.filled
 filled_in (Directory d) = 0
+filled_in (Special s) = 0
 
 -- the blocks of nodes
 abbrev pub blocks_of : List (ℕ × Node) → ℕ

@@ -4,8 +4,8 @@ use Rattle.std.specs.Prelude.{◌∷◌, length, Option, Some, None, if◌then�
 use Rattle.std.specs.Ordering.{nat_cmp}
 use Rattle.std.specs.FinMap.{FinMap, get}
 use Rattle.std.specs.FinSet as sets
-use Rattle.nfs_model.specs.Types.{Moment, Listed, Shown, Before, Wcc, Regular, DirectoryKind}
-use Rattle.nfs_model.specs.Server.{Attributes, FileNode, Node, File, Directory, VolumeState, block_size}
+use Rattle.nfs_model.specs.Types.{Moment, Listed, Shown, Before, Wcc, Regular, DirectoryKind, SpecialKind}
+use Rattle.nfs_model.specs.Server.{Attributes, FileNode, Node, File, Directory, Special, VolumeState, block_size}
 
 -- whether a moment is no later than another
 abbrev pub moment_le : Moment → Moment → Bool
@@ -29,6 +29,7 @@ effective_attributes (Some t) a = record a { mtime = t; ctime = t }
 abbrev pub times : Node → Attributes
 times (File f) = effective_attributes f.touch f.attributes
 times (Directory d) = d.attributes
+times (Special s) = s.attributes
 
 -- the touch becomes the stored times and is gone
 abbrev pub settled : FileNode → FileNode
@@ -41,6 +42,7 @@ abbrev pub is_directory_node : Option Node → Bool
 is_directory_node None = false
 is_directory_node (Some (File f)) = false
 is_directory_node (Some (Directory d)) = true
+is_directory_node (Some (Special s)) = false
 
 -- how many of a directory's entries are directories
 abbrev pub subdirectories : FinMap nat_cmp Node → List Listed → ℕ
@@ -52,13 +54,13 @@ subdirectories nodes (e ∷ es) =
 abbrev pub directory_size : ℕ
 directory_size = 4096
 
--- fattr3 of a node (RFC 1813 section 2.6): a file has one link, a directory two and one for each
--- subdirectory
+-- fattr3 of a node (RFC 1813 section 2.6): a directory has two links and one for each subdirectory, all else one for each
+-- name; the size of a symbolic link is that of its text, of what else is special 0
 abbrev pub shown : VolumeState → ℕ → Node → Shown
 shown volume fileid (File f) = record {
   kind = Regular;
   mode = f.attributes.mode;
-  links = 1;
+  links = f.links;
   uid = f.attributes.uid;
   gid = f.attributes.gid;
   size = length f.bytes;
@@ -82,6 +84,20 @@ shown volume fileid (Directory d) = record {
   atime = d.attributes.atime;
   mtime = d.attributes.mtime;
   ctime = d.attributes.ctime;
+}
+shown volume fileid (Special s) = record {
+  kind = SpecialKind s.special;
+  mode = s.attributes.mode;
+  links = s.links;
+  uid = s.attributes.uid;
+  gid = s.attributes.gid;
+  size = length s.text;
+  used = 0;
+  fsid = volume.number;
+  fileid = fileid;
+  atime = s.attributes.atime;
+  mtime = s.attributes.mtime;
+  ctime = s.attributes.ctime;
 }
 
 -- wcc_attr of a node (RFC 1813 section 2.6)

@@ -35,6 +35,28 @@ pub record Ownership : Type 0 where
   pub uid : ℕ
   pub gid : ℕ
 
+-- ---- kinds of objects
+
+-- specdata3: the major and minor numbers of a device (RFC 1813 section 2.6)
+pub record Device : Type 0 where
+  pub major : ℕ
+  pub minor : ℕ
+
+-- what is neither a regular file nor a directory, by ftype3: NF3LNK, NF3FIFO, NF3SOCK, and NF3BLK and NF3CHR with their
+-- rdev, which is zero of all else (RFC 1813 section 2.6)
+pub data SpecialType : Type 0 where
+  SymbolicLink : SpecialType
+  Fifo : SpecialType
+  Socket : SpecialType
+  BlockDevice : (device : Device) → SpecialType
+  CharacterDevice : (device : Device) → SpecialType
+
+-- ftype3: NF3REG, NF3DIR and the others (RFC 1813 section 2.6)
+pub data Kind : Type 0 where
+  Regular : Kind
+  DirectoryKind : Kind
+  SpecialKind : (special : SpecialType) → Kind
+
 -- ---- what is asked
 
 -- time_how, with set_atime or set_mtime (RFC 1813 section 2.6)
@@ -58,14 +80,6 @@ pub data CreateMode : Type 0 where
   Guarded : (set : SetAttributes) → CreateMode
   Exclusive : (verifier : List ℕ) → CreateMode
 
--- the procedures on links and special devices (RFC 1813 sections 3.3.5, 3.3.10, 3.3.11 and 3.3.15): none
--- of them is supported (our profile)
-pub data UnsupportedProcedure : Type 0 where
-  Readlink : UnsupportedProcedure
-  Symlink : UnsupportedProcedure
-  Mknod : UnsupportedProcedure
-  Link : UnsupportedProcedure
-
 -- What the procedures of MOUNT ask that tell or find something (RFC 1813 appendix I, section 5.2). A
 -- path is the bytes that came.
 pub data MountCall : Type 0 where
@@ -75,9 +89,9 @@ pub data MountCall : Type 0 where
   -- UMNT, whose path isn't kept, and UMNTALL: mounts aren't kept, so there is nothing to undo
   Unmount : MountCall
 
--- One constructor for each procedure, with its arguments (RFC 1813 section 3.3); those that aren't
--- supported share one, without arguments. A handle is the bytes that came, good or bad; so is a name.
--- How stable a WRITE is to be isn't kept, since every one is stable. CENSUS, GROW and STOP are of the
+-- One constructor for each procedure, with its arguments (RFC 1813 section 3.3). A handle is the bytes
+-- that came, good or bad; so is a name, and the text of a symbolic link. MKNOD has no attributes where it asks
+-- for a kind that it doesn't make. How stable a WRITE is to be isn't kept, since every one is stable. CENSUS, GROW and STOP are of the
 -- admin program (our profile), and MOUNT is a program of its own. A MNT of a path that leads below the
 -- root of a volume has that root's handle beside the path (Serial.Mount).
 pub data Call : Type 0 where
@@ -86,20 +100,23 @@ pub data Call : Type 0 where
   Setattr : (handle : List ℕ) (set : SetAttributes) (guard : Option Moment) → Call
   Lookup : (directory name : List ℕ) → Call
   CheckAccess : (handle : List ℕ) (asked : ℕ) → Call
+  Readlink : (handle : List ℕ) → Call
   Read : (handle : List ℕ) (offset count : ℕ) → Call
   Write : (handle : List ℕ) (offset count : ℕ) (written : List ℕ) → Call
   Create : (directory name : List ℕ) (mode : CreateMode) → Call
   Mkdir : (directory name : List ℕ) (set : SetAttributes) → Call
+  Symlink : (directory name : List ℕ) (set : SetAttributes) (text : List ℕ) → Call
+  Mknod : (directory name : List ℕ) (kind : Kind) (set : SetAttributes) → Call
   Remove : (directory name : List ℕ) → Call
   Rmdir : (directory name : List ℕ) → Call
   Rename : (from from_name to to_name : List ℕ) → Call
+  Link : (handle directory name : List ℕ) → Call
   Readdir : (directory : List ℕ) (cookie : ℕ) (verifier : List ℕ) (count : ℕ) → Call
   Readdirplus : (directory : List ℕ) (cookie : ℕ) (verifier : List ℕ) (names_count count : ℕ) → Call
   Fsstat : (handle : List ℕ) → Call
   Fsinfo : (handle : List ℕ) → Call
   Pathconf : (handle : List ℕ) → Call
   Commit : (handle : List ℕ) → Call
-  Unsupported : (which : UnsupportedProcedure) → Call
   Census : Call
   Grow : (volume ranges : ℕ) → Call
   Stop : Call
@@ -121,14 +138,15 @@ pub data Status : Type 0 where
   TooBig : Status
   NoSpace : Status
   ReadOnly : Status
+  TooManyLinks : Status
   NameTooLong : Status
   NotEmpty : Status
   Stale : Status
   BadHandle : Status
   NotSynchronous : Status
   BadCookie : Status
-  NotSupported : Status
   TooSmall : Status
+  BadType : Status
 
 -- its number (RFC 1813 section 2.5)
 abbrev pub status_word : Status → ℕ
@@ -143,21 +161,17 @@ status_word Invalid = 22
 status_word TooBig = 27
 status_word NoSpace = 28
 status_word ReadOnly = 30
+status_word TooManyLinks = 31
 status_word NameTooLong = 63
 status_word NotEmpty = 66
 status_word Stale = 70
 status_word BadHandle = 10001
 status_word NotSynchronous = 10002
 status_word BadCookie = 10003
-status_word NotSupported = 10004
 status_word TooSmall = 10005
+status_word BadType = 10007
 
--- ftype3: NF3REG and NF3DIR (RFC 1813 section 2.6)
-pub data Kind : Type 0 where
-  Regular : Kind
-  DirectoryKind : Kind
-
--- fattr3, the attributes that a reply shows (RFC 1813 section 2.6); rdev is zero
+-- fattr3, the attributes that a reply shows (RFC 1813 section 2.6); rdev stands with the kind
 pub record Shown : Type 0 where
   pub kind : Kind
   pub mode : ℕ
@@ -217,11 +231,13 @@ pub data Answer : Type 0 where
   SetattrDone : (change : Wcc) → Answer
   LookupDone : (handle : List ℕ) (object directory : Shown) → Answer
   AccessDone : (object : Shown) (given : ℕ) → Answer
+  ReadlinkDone : (object : Shown) (text : List ℕ) → Answer
   ReadDone : (count : ℕ) (eof : Bool) (bytes : List ℕ) → Answer
   WriteDone : (count : ℕ) (verifier : List ℕ) → Answer
   MadeDone : (handle : List ℕ) (object : Shown) (directory : Wcc) → Answer
   GoneDone : (directory : Wcc) → Answer
   RenameDone : (from to : Wcc) → Answer
+  LinkDone : (object : Shown) (directory : Wcc) → Answer
   ReaddirDone : (directory : Shown) (page : List Listed) (eof : Bool) → Answer
   ReaddirplusDone : (directory : Shown) (page : List ListedPlus) (eof : Bool) → Answer
   FsstatDone : (object : Shown) (space : Space) → Answer

@@ -6,7 +6,7 @@ use Rattle.std.specs.Prelude.{if◌then◌else◌}
 use Rattle.std.specs.FinSet.{len}
 use Rattle.nfs_model.specs.Types.{Moment, Caller, Call, Write, Grow, Asked, Ask, Refused, Undecoded, Reply}
 use Rattle.nfs_model.specs.Tree.{Affinity, Serial, Aggregate, Volume, Logical, Stripe, Vbn, Range}
-use Rattle.nfs_model.specs.Server.{FileNode, Node, File, Directory, VolumeState, Server, most_bytes}
+use Rattle.nfs_model.specs.Server.{FileNode, Node, File, Directory, Special, VolumeState, Server, most_bytes}
 use Rattle.nfs_model.specs.Locate.{Located, locate, node_named}
 use Rattle.nfs_model.specs.Serial.Rights.{protection}
 use Rattle.nfs_model.specs.Serial.Permission.{write_refusal}
@@ -67,6 +67,7 @@ ready None there caller offset given n = None
 ready (Some l) None caller offset given n = None
 ready (Some l) (Some (File f)) caller offset given n = ready_file l.volume caller f offset given n
 ready (Some l) (Some (Directory d)) caller offset given n = None
+ready (Some l) (Some (Special s)) caller offset given n = None
 
 -- a WRITE to what a handle names
 abbrev pub ready_at : Option Located → Caller → ℕ → ℕ → ℕ → Option Ready

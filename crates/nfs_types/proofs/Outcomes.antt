@@ -7,10 +7,12 @@ use Rattle.nfs_values.specs.declared.attributes.Attributes.{Attributes}
 use Rattle.nfs_values.specs.declared.attributes.Change.{Change}
 use Rattle.nfs_values.specs.declared.answer.LookupResults.{LookupResults}
 use Rattle.nfs_values.specs.declared.answer.AccessResults.{AccessResults}
+use Rattle.nfs_values.specs.declared.answer.ReadLinkResults.{ReadLinkResults}
 use Rattle.nfs_values.specs.declared.answer.ReadResults.{ReadResults}
 use Rattle.nfs_values.specs.declared.answer.WriteResults.{WriteResults}
 use Rattle.nfs_values.specs.declared.answer.MakeResults.{MakeResults}
 use Rattle.nfs_values.specs.declared.answer.RenameResults.{RenameResults}
+use Rattle.nfs_values.specs.declared.answer.LinkResults.{LinkResults}
 use Rattle.nfs_values.specs.declared.answer.ReadDirectoryResults.{ReadDirectoryResults}
 use Rattle.nfs_values.specs.declared.answer.ReadDirectoryPlusResults.{ReadDirectoryPlusResults}
 use Rattle.nfs_values.specs.declared.answer.FilesystemStatusResults.{FilesystemStatusResults}
@@ -19,11 +21,11 @@ use Rattle.nfs_values.specs.declared.answer.PathConfigurationResults.{PathConfig
 use Rattle.nfs_values.specs.declared.answer.CommitResults.{CommitResults}
 use Rattle.nfs_values.specs.declared.mount.MountResults.{MountResults}
 use Rattle.nfs_values.specs.Answer.{entry_of, entry_plus_of, entries_listed_plus, space_of, attributes_shown, attributes_set, looked_up}
-use Rattle.nfs_values.specs.Answer.{access_told, bytes_read, bytes_written, node_made, name_gone, name_moved, entries_listed}
+use Rattle.nfs_values.specs.Answer.{access_told, link_read, link_made, bytes_read, bytes_written, node_made, name_gone, name_moved, entries_listed}
 use Rattle.nfs_values.specs.Answer.{filesystem_status_told, info_told, path_told, file_committed, volume_grown, volume_mounted, result_of}
 use Rattle.nfs_values.specs.Attributes.{shown_of, change_of}
 use Rattle.nfs_types.specs.Shapes.{attributes_shape, attributes_value, change_shape, change_value}
-use Rattle.nfs_types.specs.Results.{lookup_shape, lookup_value, access_results_shape, access_value, read_shape, read_value, write_shape}
+use Rattle.nfs_types.specs.Results.{lookup_shape, lookup_value, access_results_shape, access_value, readlink_shape, readlink_value, linked_shape, linked_value, read_shape, read_value, write_shape}
 use Rattle.nfs_types.specs.Results.{write_value, made_shape, made_value, renamed_shape, renamed_value, readdir_shape, readdir_value}
 use Rattle.nfs_types.specs.Results.{readdirplus_shape, readdirplus_value, fsstat_shape, fsstat_value, fsinfo_shape, fsinfo_value, pathconf_shape}
 use Rattle.nfs_types.specs.Results.{pathconf_value, commit_shape, commit_value, mounted_shape, mounted_value, answer_bytes, done, result_bytes}
@@ -50,6 +52,10 @@ pub access_bytes : (result : Result AccessResults Status)
     → answer_bytes (result_of access_told 1 result) ≡ result_bytes access_results_shape (λ r. access_value (shown_of r.object) r.given) 1 result
 access_bytes = arm access_results_shape (λ r. access_value (shown_of r.object) r.given) access_told 1 (λ r. refl)
 
+pub link_read_bytes : (result : Result ReadLinkResults Status)
+    → answer_bytes (result_of link_read 1 result) ≡ result_bytes readlink_shape (λ r. readlink_value (shown_of r.object) r.text) 1 result
+link_read_bytes = arm readlink_shape (λ r. readlink_value (shown_of r.object) r.text) link_read 1 (λ r. refl)
+
 pub read_bytes : (result : Result ReadResults Status)
     → answer_bytes (result_of bytes_read 1 result) ≡ result_bytes read_shape (λ r. read_value (length r.bytes) r.eof r.bytes) 1 result
 read_bytes = arm read_shape (λ r. read_value (length r.bytes) r.eof r.bytes) bytes_read 1 (λ r. refl)
@@ -69,6 +75,10 @@ gone_bytes = arm change_shape (λ c. change_value (change_of c)) name_gone 2 (λ
 pub moved_bytes : (result : Result RenameResults Status)
     → answer_bytes (result_of name_moved 4 result) ≡ result_bytes renamed_shape (λ r. renamed_value (change_of r.from) (change_of r.to)) 4 result
 moved_bytes = arm renamed_shape (λ r. renamed_value (change_of r.from) (change_of r.to)) name_moved 4 (λ r. refl)
+
+pub link_made_bytes : (result : Result LinkResults Status)
+    → answer_bytes (result_of link_made 3 result) ≡ result_bytes linked_shape (λ r. linked_value (shown_of r.object) (change_of r.directory)) 3 result
+link_made_bytes = arm linked_shape (λ r. linked_value (shown_of r.object) (change_of r.directory)) link_made 3 (λ r. refl)
 
 pub listed_bytes : (result : Result ReadDirectoryResults Status)
     → answer_bytes (result_of entries_listed 1 result) ≡ result_bytes readdir_shape
@@ -109,11 +119,13 @@ pub ruleset outcomes = (
   set_bytes,
   found_bytes,
   access_bytes,
+  link_read_bytes,
   read_bytes,
   written_bytes,
   made_bytes,
   gone_bytes,
   moved_bytes,
+  link_made_bytes,
   listed_bytes,
   listed_plus_bytes,
   space_bytes,

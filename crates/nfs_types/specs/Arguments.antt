@@ -16,7 +16,7 @@ use Rattle.nfs_values.specs.declared.target.Target.{Target}
 use Rattle.nfs_types.specs.declared.bad.Bad.{Bad}
 use Rattle.nfs_types.specs.declared.bad.Bad.TheVariants as bads
 use Rattle.nfs_types.specs.Shapes.{◌&◌, handle_shape, any_bytes, verifier_shape, moment_from, set_shape, set_from, guard_shape, target_shape, create_shape}
-use Rattle.nfs_types.specs.Shapes.{create_from, symlink_shape, mknod_shape, stable_shape}
+use Rattle.nfs_types.specs.Shapes.{create_from, symlink_shape, mknod_shape, mknod_kind, mknod_set, stable_shape}
 
 -- SETATTR3args (section 3.3.2): object, new_attributes and guard
 abbrev pub setattr_shape : Shape
@@ -129,7 +129,7 @@ abbrev pub access_call : Value access_shape → model.Call
 access_call v = model.CheckAccess v.0 v.1
 
 abbrev pub readlink_call : Value handle_shape → model.Call
-readlink_call v = model.Unsupported model.Readlink
+readlink_call handle = model.Readlink handle
 
 abbrev pub read_call : Value range_shape → model.Call
 read_call v = model.Read v.0 v.1.0 v.1.1
@@ -144,10 +144,10 @@ abbrev pub mkdir_call : Value making_shape → model.Call
 mkdir_call v = model.Mkdir v.0.0 v.0.1 (set_from v.1)
 
 abbrev pub symlink_call : Value symlinking_shape → model.Call
-symlink_call v = model.Unsupported model.Symlink
+symlink_call v = model.Symlink v.0.0 v.0.1 (set_from v.1.0) v.1.1
 
 abbrev pub mknod_call : Value mknodding_shape → model.Call
-mknod_call v = model.Unsupported model.Mknod
+mknod_call v = model.Mknod v.0.0 v.0.1 (mknod_kind v.1) (mknod_set v.1)
 
 abbrev pub remove_call : Value target_shape → model.Call
 remove_call v = model.Remove v.0 v.1
@@ -159,7 +159,7 @@ abbrev pub rename_call : Value renaming_shape → model.Call
 rename_call v = model.Rename v.0.0 v.0.1 v.1.0 v.1.1
 
 abbrev pub link_call : Value linking_shape → model.Call
-link_call v = model.Unsupported model.Link
+link_call v = model.Link v.0 v.1.0 v.1.1
 
 abbrev pub readdir_call : Value listing_shape → model.Call
 readdir_call v = model.Readdir v.0 v.1.0 v.1.1.0 v.1.1.1
@@ -237,15 +237,18 @@ call_from Unmount = umnt_call
 call_from UnmountAll = umntall_call
 call_from ListExports = export_call
 
--- The arguments have a name, a path or data.
+-- The arguments have a name, a path, a text or data.
 abbrev pub takes_memory : Procedure → Bool
 takes_memory Lookup = true
 takes_memory Write = true
 takes_memory Create = true
 takes_memory MakeDirectory = true
+takes_memory MakeSymbolicLink = true
+takes_memory MakeDevice = true
 takes_memory Remove = true
 takes_memory RemoveDirectory = true
 takes_memory Rename = true
+takes_memory MakeLink = true
 takes_memory Mount = true
 takes_memory procedure = false
 

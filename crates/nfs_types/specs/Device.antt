@@ -7,11 +7,11 @@ use Rattle.nfs_types.specs.declared.decode.DeviceToMake.{DeviceToMake}
 use Rattle.nfs_types.specs.declared.decode.DeviceToMake.TheVariants.{Character, Block, Socket, Fifo, Regular, Directory, SymbolicLink}
 
 -- as its type has it
-abbrev pub device_value : DeviceToMake → Value mknod_shape
-device_value (Character set numbers) = inl (set_value (set_of set), numbers)
-device_value (Block set numbers) = inr (inl (set_value (set_of set), numbers))
-device_value (Socket set) = inr (inr (inl (set_value (set_of set))))
-device_value (Fifo set) = inr (inr (inr (inl (set_value (set_of set)))))
-device_value Regular = inr (inr (inr (inr (inl tt))))
-device_value Directory = inr (inr (inr (inr (inr (inl tt)))))
-device_value SymbolicLink = inr (inr (inr (inr (inr (inr (inl tt))))))
+abbrev pub mknod_value : DeviceToMake → Value mknod_shape
+mknod_value (Character set numbers) = inl (set_value (set_of set), numbers)
+mknod_value (Block set numbers) = inr (inl (set_value (set_of set), numbers))
+mknod_value (Socket set) = inr (inr (inl (set_value (set_of set))))
+mknod_value (Fifo set) = inr (inr (inr (inl (set_value (set_of set)))))
+mknod_value Regular = inr (inr (inr (inr (inl tt))))
+mknod_value Directory = inr (inr (inr (inr (inr (inl tt)))))
+mknod_value SymbolicLink = inr (inr (inr (inr (inr (inr (inl tt))))))

@@ -4,6 +4,7 @@ use Rattle.std.specs.Prelude.{ℕ, zero, suc, Bool, true, false, ◌+◌, ◌-�
 use Rattle.xdr.specs.Shape.{Shape, Void, Word, Hyper, Boolean, Opaque, Optional, Chain, Array, Value, spelling}
 use Rattle.nfs_model.specs.Types as model
 use Rattle.nfs_model.specs.Server.{block_size, most_bytes}
+use Rattle.nfs_model.specs.Serial.Links.{most_links}
 use Rattle.nfs_values.specs.declared.status.Status.{Status}
 use Rattle.nfs_values.specs.Status.{status_of}
 use Rattle.nfs_types.specs.Shapes.{◌&◌, handle_shape, any_bytes, verifier_shape, attributes_shape, attributes_value, after_shape, change_shape, change_value}
@@ -23,6 +24,13 @@ access_results_shape = after_shape & Word
 abbrev pub access_value : model.Shown → ℕ → Value access_results_shape
 access_value object given = (Some (attributes_value object), given)
 
+-- READLINK3resok (section 3.3.5): symlink_attributes and data, a nfspath3
+abbrev pub readlink_shape : Shape
+readlink_shape = after_shape & any_bytes
+
+abbrev pub readlink_value : model.Shown → List ℕ → Value readlink_shape
+readlink_value object text = (Some (attributes_value object), text)
+
 -- READ3resok (section 3.3.6): attributes, count, eof and data
 abbrev pub read_shape : Shape
 read_shape = after_shape & Word & Boolean & any_bytes
@@ -41,7 +49,7 @@ write_shape = change_shape & Word & stable_shape & verifier_shape
 abbrev pub write_value : ℕ → List ℕ → Value write_shape
 write_value count verifier = ((None, None), (count, (file_sync, verifier)))
 
--- CREATE3resok and MKDIR3resok (sections 3.3.8 and 3.3.9): the object's handle and attributes, the directory's wcc_data
+-- CREATE3resok, MKDIR3resok, SYMLINK3resok and MKNOD3resok (sections 3.3.8 to 3.3.11): the object's handle and attributes, the directory's wcc_data
 abbrev pub made_shape : Shape
 made_shape = Optional handle_shape & after_shape & change_shape
 
@@ -54,6 +62,13 @@ renamed_shape = change_shape & change_shape
 
 abbrev pub renamed_value : model.Wcc → model.Wcc → Value renamed_shape
 renamed_value from to = (change_value from, change_value to)
+
+-- LINK3resok (section 3.3.15): the attributes of what has one more name, and the directory's wcc_data
+abbrev pub linked_shape : Shape
+linked_shape = after_shape & change_shape
+
+abbrev pub linked_value : model.Shown → model.Wcc → Value linked_shape
+linked_value object directory = (Some (attributes_value object), change_value directory)
 
 -- entry3 (section 3.3.16): fileid, name and cookie, before the next
 abbrev pub entry_shape : Shape
@@ -91,9 +106,9 @@ abbrev pub fsstat_value : model.Shown → model.Space → Value fsstat_shape
 fsstat_value root space =
     (Some (attributes_value root), (space.total_bytes, (space.free_bytes, (space.free_bytes, (space.inodes, (space.free_inodes, (space.free_inodes, 0)))))))
 
--- FSF3_HOMOGENEOUS 8, since PATHCONF tells the same of every object, and FSF3_CANSETTIME 16 (section 3.3.19); there are no links
+-- FSF3_LINK 1, FSF3_SYMLINK 2, FSF3_HOMOGENEOUS 8, since PATHCONF tells the same of every object, and FSF3_CANSETTIME 16 (section 3.3.19)
 abbrev pub fsinfo_properties : ℕ
-fsinfo_properties = 8 + 16
+fsinfo_properties = 1 + 2 + 8 + 16
 
 -- FSINFO3resok (section 3.3.19): attributes, rtmax, rtpref, rtmult, wtmax, wtpref, wtmult, dtpref, maxfilesize, time_delta and properties
 abbrev pub fsinfo_shape : Shape
@@ -110,10 +125,10 @@ fsinfo_value root largest = (
 abbrev pub pathconf_shape : Shape
 pathconf_shape = after_shape & Word & Word & Boolean & Boolean & Boolean & Boolean
 
--- no links are made; a name of more than 255 bytes is refused, not cut; names that differ in case differ, and are kept as they came (our
+-- a name of more than 255 bytes is refused, not cut; names that differ in case differ, and are kept as they came (our
 -- profile)
 abbrev pub pathconf_value : model.Shown → Bool → Value pathconf_shape
-pathconf_value object chown_restricted = (Some (attributes_value object), (1, (255, (true, (chown_restricted, (false, true))))))
+pathconf_value object chown_restricted = (Some (attributes_value object), (most_links, (255, (true, (chown_restricted, (false, true))))))
 
 -- COMMIT3resok (section 3.3.21): wcc_data and verf
 abbrev pub commit_shape : Shape
@@ -181,11 +196,13 @@ answer_bytes (model.GetattrDone attributes) = done attributes_shape (attributes_
 answer_bytes (model.SetattrDone change) = done change_shape (change_value change)
 answer_bytes (model.LookupDone handle object directory) = done lookup_shape (lookup_value handle object directory)
 answer_bytes (model.AccessDone object given) = done access_results_shape (access_value object given)
+answer_bytes (model.ReadlinkDone object text) = done readlink_shape (readlink_value object text)
 answer_bytes (model.ReadDone count eof bytes) = done read_shape (read_value count eof bytes)
 answer_bytes (model.WriteDone count verifier) = done write_shape (write_value count verifier)
 answer_bytes (model.MadeDone handle object directory) = done made_shape (made_value handle object directory)
 answer_bytes (model.GoneDone directory) = done change_shape (change_value directory)
 answer_bytes (model.RenameDone from to) = done renamed_shape (renamed_value from to)
+answer_bytes (model.LinkDone object directory) = done linked_shape (linked_value object directory)
 answer_bytes (model.ReaddirDone directory page eof) = done readdir_shape (readdir_value directory page eof)
 answer_bytes (model.ReaddirplusDone directory page eof) = done readdirplus_shape (readdirplus_value directory page eof)
 answer_bytes (model.FsstatDone root space) = done fsstat_shape (fsstat_value root space)

@@ -3,7 +3,8 @@ use Rattle.std.specs.Prelude.{◌-◌, ◌^◌, [], ◌∷◌, Some}
 use Rattle.std.proofs.Common.{inl, inr}
 use Rattle.xdr.specs.Shape.{Shape, Void, Word, Hyper, Choice, Fixed, Opaque, Pair, Optional, Case, NoCase, Value}
 use Rattle.nfs_model.specs.Types as model
-use Rattle.nfs_values.specs.Attributes.{kind_word}
+use Rattle.nfs_model.specs.Serial.Create.{no_attributes}
+use Rattle.nfs_values.specs.Attributes.{kind_word, kind_device}
 
 -- a member of a structure, before the others
 infixr 5 ◌&◌
@@ -40,6 +41,12 @@ kind_shape = Choice (1 ∷ 2 ∷ 3 ∷ 4 ∷ 5 ∷ 6 ∷ 7 ∷ [])
 abbrev pub device_shape : Shape
 device_shape = Word & Word
 
+abbrev pub device_value : model.Device → Value device_shape
+device_value d = (d.major, d.minor)
+
+abbrev pub device_from : Value device_shape → model.Device
+device_from v = record { major = v.0; minor = v.1 }
+
 -- fattr3 (section 2.6)
 abbrev pub attributes_shape : Shape
 attributes_shape =
@@ -61,7 +68,7 @@ attributes_value a = (
             (
               a.used,
               (
-                (0, 0),
+                device_value (kind_device a.kind),
                 (
                   a.fsid,
                   (
@@ -171,6 +178,25 @@ device_data_shape = set_shape & device_shape
 abbrev pub mknod_shape : Shape
 mknod_shape =
     Case 4 device_data_shape (Case 3 device_data_shape (Case 6 set_shape (Case 7 set_shape (Case 1 Void (Case 2 Void (Case 5 Void NoCase))))))
+
+-- what it asks for
+abbrev pub mknod_kind : Value mknod_shape → model.Kind
+mknod_kind (inl v) = model.SpecialKind (model.CharacterDevice (device_from v.1))
+mknod_kind (inr (inl v)) = model.SpecialKind (model.BlockDevice (device_from v.1))
+mknod_kind (inr (inr (inl v))) = model.SpecialKind model.Socket
+mknod_kind (inr (inr (inr (inl v)))) = model.SpecialKind model.Fifo
+mknod_kind (inr (inr (inr (inr (inl v))))) = model.Regular
+mknod_kind (inr (inr (inr (inr (inr (inl v)))))) = model.DirectoryKind
+mknod_kind (inr (inr (inr (inr (inr (inr (inl v))))))) = model.SpecialKind model.SymbolicLink
+mknod_kind (inr (inr (inr (inr (inr (inr (inr v))))))) = absurd v
+
+-- and the attributes that come with it
+abbrev pub mknod_set : Value mknod_shape → model.SetAttributes
+mknod_set (inl v) = set_from v.0
+mknod_set (inr (inl v)) = set_from v.0
+mknod_set (inr (inr (inl v))) = set_from v
+mknod_set (inr (inr (inr (inl v)))) = set_from v
+mknod_set (inr (inr (inr (inr v)))) = no_attributes
 
 -- stable_how (section 3.3.7)
 abbrev pub stable_shape : Shape

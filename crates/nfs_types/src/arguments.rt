@@ -29,7 +29,7 @@ use crate::bad::Bad;
 use crate::decode::{DeviceToMake, StableHow, decode_all};
 use nfs_values::{
     BytesToWrite, Call, Cookie, CreateMode, FileHandle, Moment, MountCall, Name, Procedure,
-    SetAttributes, Target, UnsupportedProcedure, Verifier, VolumeNumber, call_of_path,
+    SetAttributes, Target, Verifier, VolumeNumber, call_of_path,
 };
 use std::alloc::Global;
 use xdr::Fault;
@@ -92,12 +92,12 @@ fn check_access(bytes: &[u8]) -> Result<Call, Bad>
     Ok(Call::CheckAccess { handle, asked })
 }
 
-/// READLINK (RFC 1813 section 3.3.5), which isn't supported.
+/// READLINK (RFC 1813 section 3.3.5).
 fn read_link(bytes: &[u8]) -> Result<Call, Bad>
     ensures { Makes call_of false result (asked_by handle_shape readlink_call bytes.now) }
 {
-    let _link = decode_all::<FileHandle>(bytes)?;
-    Ok(Call::Unsupported(UnsupportedProcedure::ReadLink))
+    let handle = decode_all::<FileHandle>(bytes)?;
+    Ok(Call::ReadLink { handle })
 }
 
 /// READ (RFC 1813 section 3.3.6).
@@ -164,20 +164,29 @@ fn make_directory(alloc: Global, bytes: &[u8]) -> Result<Call, Bad>
     Ok(Call::MakeDirectory { target, set })
 }
 
-/// SYMLINK (RFC 1813 section 3.3.10), which isn't supported.
-fn make_symbolic_link(bytes: &[u8]) -> Result<Call, Bad>
-    ensures { Makes call_of false result (asked_by symlinking_shape symlink_call bytes.now) }
+/// SYMLINK (RFC 1813 section 3.3.10), whose name and text are copied once nothing is left over.
+fn make_symbolic_link(alloc: Global, bytes: &[u8]) -> Result<Call, Bad>
+    ensures { Makes call_of true result (asked_by symlinking_shape symlink_call bytes.now) }
 {
-    let _link = decode_all::<((FileHandle, &[u8]), (SetAttributes, &[u8]))>(bytes)?;
-    Ok(Call::Unsupported(UnsupportedProcedure::MakeSymbolicLink))
+    let ((directory, name), (set, text)) = decode_all::<
+        ((FileHandle, &[u8]), (SetAttributes, &[u8])),
+    >(bytes)?;
+    let target = copied(alloc, directory, name)?;
+    let text = Name::copied(alloc, text)?;
+    Ok(Call::MakeSymbolicLink { target, set, text })
 }
 
-/// MKNOD (RFC 1813 section 3.3.11), which isn't supported.
-fn make_device(bytes: &[u8]) -> Result<Call, Bad>
-    ensures { Makes call_of false result (asked_by mknodding_shape mknod_call bytes.now) }
+/// MKNOD (RFC 1813 section 3.3.11).
+fn make_device(alloc: Global, bytes: &[u8]) -> Result<Call, Bad>
+    ensures { Makes call_of true result (asked_by mknodding_shape mknod_call bytes.now) }
 {
-    let _device = decode_all::<((FileHandle, &[u8]), DeviceToMake)>(bytes)?;
-    Ok(Call::Unsupported(UnsupportedProcedure::MakeDevice))
+    let ((directory, name), device) = decode_all::<((FileHandle, &[u8]), DeviceToMake)>(bytes)?;
+    let target = copied(alloc, directory, name)?;
+    Ok(Call::MakeDevice {
+        target,
+        kind: device.kind(),
+        set: device.set(),
+    })
 }
 
 /// REMOVE (RFC 1813 section 3.3.12).
@@ -206,12 +215,13 @@ fn rename(alloc: Global, bytes: &[u8]) -> Result<Call, Bad>
     Ok(Call::Rename { from, to })
 }
 
-/// LINK (RFC 1813 section 3.3.15), which isn't supported.
-fn make_link(bytes: &[u8]) -> Result<Call, Bad>
-    ensures { Makes call_of false result (asked_by linking_shape link_call bytes.now) }
+/// LINK (RFC 1813 section 3.3.15).
+fn make_link(alloc: Global, bytes: &[u8]) -> Result<Call, Bad>
+    ensures { Makes call_of true result (asked_by linking_shape link_call bytes.now) }
 {
-    let _link = decode_all::<(FileHandle, (FileHandle, &[u8]))>(bytes)?;
-    Ok(Call::Unsupported(UnsupportedProcedure::MakeLink))
+    let (handle, (directory, name)) = decode_all::<(FileHandle, (FileHandle, &[u8]))>(bytes)?;
+    let target = copied(alloc, directory, name)?;
+    Ok(Call::MakeLink { handle, target })
 }
 
 /// READDIR (RFC 1813 section 3.3.16).
@@ -358,12 +368,12 @@ pub fn decode_call(alloc: Global, procedure: Procedure, bytes: &[u8]) -> Result<
         Procedure::Write => write(alloc, bytes),
         Procedure::Create => create(alloc, bytes),
         Procedure::MakeDirectory => make_directory(alloc, bytes),
-        Procedure::MakeSymbolicLink => make_symbolic_link(bytes),
-        Procedure::MakeDevice => make_device(bytes),
+        Procedure::MakeSymbolicLink => make_symbolic_link(alloc, bytes),
+        Procedure::MakeDevice => make_device(alloc, bytes),
         Procedure::Remove => remove(alloc, bytes),
         Procedure::RemoveDirectory => remove_directory(alloc, bytes),
         Procedure::Rename => rename(alloc, bytes),
-        Procedure::MakeLink => make_link(bytes),
+        Procedure::MakeLink => make_link(alloc, bytes),
         Procedure::ReadDirectory => read_directory(bytes),
         Procedure::ReadDirectoryPlus => read_directory_plus(bytes),
         Procedure::FilesystemStatus => filesystem_status(bytes),

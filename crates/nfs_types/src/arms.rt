@@ -5,6 +5,8 @@ ghost use Rattle.nfs_values.specs.Attributes.{shown_of, change_of};
 ghost use Rattle.nfs_values.specs.Answer.{space_of};
 ghost use Rattle.nfs_types.specs.Results.{lookup_shape, lookup_value, read_shape, read_value};
 ghost use Rattle.nfs_types.specs.Results.{access_results_shape, access_value};
+ghost use Rattle.nfs_types.specs.Results.{readlink_shape, readlink_value};
+ghost use Rattle.nfs_types.specs.Results.{linked_shape, linked_value};
 ghost use Rattle.nfs_types.specs.Results.{fsinfo_shape, fsinfo_value};
 ghost use Rattle.nfs_types.specs.Results.{pathconf_shape, pathconf_value};
 ghost use Rattle.nfs_types.specs.Results.{write_shape, write_value, made_shape, made_value};
@@ -13,10 +15,11 @@ ghost use Rattle.nfs_types.specs.Results.{fsstat_shape, fsstat_value, commit_sha
 
 use crate::encode::{Encode, size_of_present, write_absent, write_present};
 use nfs_values::answer::{
-    AccessResults, CommitResults, FilesystemInfoResults, FilesystemStatusResults, LookupResults,
-    MakeResults, PathConfigurationResults, ReadResults, RenameResults, WriteResults,
+    AccessResults, CommitResults, FilesystemInfoResults, FilesystemStatusResults, LinkResults,
+    LookupResults, MakeResults, PathConfigurationResults, ReadLinkResults, ReadResults,
+    RenameResults, WriteResults,
 };
-use nfs_values::{BLOCK_BYTES, COUNT_LIMIT};
+use nfs_values::{BLOCK_BYTES, COUNT_LIMIT, MOST_LINKS};
 
 /// FILE_SYNC (RFC 1813 section 3.3.7).
 const FILE_SYNC: u32 = 2;
@@ -49,6 +52,21 @@ impl Encode for AccessResults {
     fn write(&self, out: &mut Vec<u8>) {
         write_present(&self.object, out);
         self.given.write(out);
+    }
+}
+
+impl Encode for ReadLinkResults {
+    ghost shape = { readlink_shape };
+
+    ghost value = { λ r. readlink_value (shown_of r.object) r.text };
+
+    fn size(&self) -> usize {
+        size_of_present(&self.object) + self.text.size()
+    }
+
+    fn write(&self, out: &mut Vec<u8>) {
+        write_present(&self.object, out);
+        self.text.write(out);
     }
 }
 
@@ -118,6 +136,21 @@ impl Encode for RenameResults {
     }
 }
 
+impl Encode for LinkResults {
+    ghost shape = { linked_shape };
+
+    ghost value = { λ r. linked_value (shown_of r.object) (change_of r.directory) };
+
+    fn size(&self) -> usize {
+        size_of_present(&self.object) + self.directory.size()
+    }
+
+    fn write(&self, out: &mut Vec<u8>) {
+        write_present(&self.object, out);
+        self.directory.write(out);
+    }
+}
+
 impl Encode for FilesystemStatusResults {
     ghost shape = { fsstat_shape };
 
@@ -141,8 +174,8 @@ impl Encode for FilesystemStatusResults {
 /// The bytes by whose multiples files are best read and written (RFC 1813 section 3.3.19).
 const BEST_MULTIPLE: u32 = BLOCK_BYTES as u32;
 
-/// FSF3_HOMOGENEOUS and FSF3_CANSETTIME (RFC 1813 section 3.3.19).
-const PROPERTIES: u32 = 0x0008 + 0x0010;
+/// FSF3_LINK, FSF3_SYMLINK, FSF3_HOMOGENEOUS and FSF3_CANSETTIME (RFC 1813 section 3.3.19).
+const PROPERTIES: u32 = 0x0001 + 0x0002 + 0x0008 + 0x0010;
 
 impl Encode for FilesystemInfoResults {
     ghost shape = { fsinfo_shape };
@@ -162,9 +195,6 @@ impl Encode for FilesystemInfoResults {
         (COUNT_LIMIT, (self.largest, (time_delta, PROPERTIES))).write(out);
     }
 }
-
-/// The most links of a file.
-const MOST_LINKS: u32 = 1;
 
 /// The most bytes of a name.
 const MOST_NAME: u32 = 255;

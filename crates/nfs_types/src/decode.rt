@@ -9,11 +9,12 @@ ghost use Rattle.nfs_types.specs.Shapes.{any_bytes, handle_shape, verifier_shape
 ghost use Rattle.nfs_types.specs.Shapes.{moment_shape, moment_value};
 ghost use Rattle.nfs_types.specs.Shapes.{time_shape, time_value, set_shape, set_value};
 ghost use Rattle.nfs_types.specs.Shapes.{create_shape, create_value, stable_shape, mknod_shape};
-ghost use Rattle.nfs_types.specs.Device.{device_value};
+ghost use Rattle.nfs_types.specs.Device.{mknod_value};
 ghost use Rattle.nfs_types.specs.Stable.{stable_word};
 
 use nfs_values::{
-    Cookie, CreateMode, FileHandle, Moment, SetAttributes, SetTime, Verifier, VolumeNumber,
+    Cookie, CreateMode, Device, FileHandle, FileKind, Moment, SetAttributes, SetTime, SpecialType,
+    Verifier, VolumeNumber,
 };
 use xdr::{Cursor, Fault};
 
@@ -241,10 +242,50 @@ pub enum DeviceToMake {
     SymbolicLink,
 }
 
+impl DeviceToMake {
+    ghost use Rattle.std.specs.Prelude.{◌≡◌};
+    ghost use Rattle.nfs_values.specs.Attributes.{kind_of};
+    ghost use Rattle.nfs_types.specs.Shapes.{mknod_kind, mknod_set};
+
+    /// What it is to be.
+    pub fn kind(self) -> FileKind
+        ensures { kind_of result ≡ mknod_kind (mknod_value self) }
+    {
+        match self {
+            DeviceToMake::Character(_, (major, minor)) => {
+                FileKind::Special(SpecialType::CharacterDevice(Device { major, minor }))
+            }
+            DeviceToMake::Block(_, (major, minor)) => {
+                FileKind::Special(SpecialType::BlockDevice(Device { major, minor }))
+            }
+            DeviceToMake::Socket(_) => FileKind::Special(SpecialType::Socket),
+            DeviceToMake::Fifo(_) => FileKind::Special(SpecialType::Fifo),
+            DeviceToMake::Regular => FileKind::Regular,
+            DeviceToMake::Directory => FileKind::Directory,
+            DeviceToMake::SymbolicLink => FileKind::Special(SpecialType::SymbolicLink),
+        }
+    }
+
+    /// The attributes that come with it.
+    pub fn set(self) -> SetAttributes
+        ensures { set_of result ≡ mknod_set (mknod_value self) }
+    {
+        match self {
+            DeviceToMake::Character(set, _) => set,
+            DeviceToMake::Block(set, _) => set,
+            DeviceToMake::Socket(set) => set,
+            DeviceToMake::Fifo(set) => set,
+            DeviceToMake::Regular => SetAttributes::NOTHING,
+            DeviceToMake::Directory => SetAttributes::NOTHING,
+            DeviceToMake::SymbolicLink => SetAttributes::NOTHING,
+        }
+    }
+}
+
 impl<'a> Decode<'a> for DeviceToMake {
     ghost shape = { mknod_shape };
 
-    ghost value = { device_value };
+    ghost value = { mknod_value };
 
     fn decode(from: &mut Cursor<'a>) -> Result<DeviceToMake, Fault> {
         match from.u32()? {

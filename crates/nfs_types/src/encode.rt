@@ -328,11 +328,12 @@ impl Encode for Attributes {
     }
 
     fn write(&self, out: &mut Vec<u8>) {
+        let device = self.kind.device();
         append(out, &two_words(self.kind.word(), self.mode));
         append(out, &two_words(self.links, self.uid));
         self.gid.write(out);
         append(out, &two_hypers(self.size, self.used));
-        append(out, &[0; 8]);
+        append(out, &two_words(device.major, device.minor));
         append(out, &two_hypers(self.fsid, self.fileid.0));
         self.atime.write(out);
         self.mtime.write(out);

@@ -19,7 +19,7 @@ pub use nfs_values::{
     ADMIN_PROGRAM, Answer, Attributes, AuthFault, BlockNumber, BytesRead, BytesToWrite, Call,
     Change, ConnectionNumber, Cookie, CreateMode, Credential, Exports, FileHandle, FileKind,
     Fileid, GroupList, MOUNT_PROGRAM, Moment, MountCall, MountResults, NFS_PROGRAM, Name, Named,
-    PriorAttributes, Procedure, Refusal, Reply, SetAttributes, SetTime, Status, Target,
-    UnsupportedProcedure, Verifier, VolumeNumber, WorkerNumber, answer,
+    PriorAttributes, Procedure, Refusal, Reply, SetAttributes, SetTime, Status, Target, Verifier,
+    VolumeNumber, WorkerNumber, answer,
 };
 pub use results::{encode_result, size_of_result};

@@ -3,16 +3,17 @@ use Rattle.std.specs.List.{range_with_len}
 use Rattle.std.specs.Option.{option_map}
 use Rattle.nfs_model.specs.Types as model
 use Rattle.nfs_model.specs.Serial.Mount.{volume_path}
-use Rattle.nfs_model.specs.Serial.Absent.{absent_in}
 use Rattle.nfs_values.specs.declared.status.Status.{Status}
 use Rattle.nfs_values.specs.declared.attributes.Attributes.{Attributes}
 use Rattle.nfs_values.specs.declared.attributes.Change.{Change}
 use Rattle.nfs_values.specs.declared.answer.LookupResults.{LookupResults}
 use Rattle.nfs_values.specs.declared.answer.AccessResults.{AccessResults}
+use Rattle.nfs_values.specs.declared.answer.ReadLinkResults.{ReadLinkResults}
 use Rattle.nfs_values.specs.declared.answer.ReadResults.{ReadResults}
 use Rattle.nfs_values.specs.declared.answer.WriteResults.{WriteResults}
 use Rattle.nfs_values.specs.declared.answer.MakeResults.{MakeResults}
 use Rattle.nfs_values.specs.declared.answer.RenameResults.{RenameResults}
+use Rattle.nfs_values.specs.declared.answer.LinkResults.{LinkResults}
 use Rattle.nfs_values.specs.declared.answer.DirectoryEntry.{DirectoryEntry}
 use Rattle.nfs_values.specs.declared.answer.ReadDirectoryResults.{ReadDirectoryResults}
 use Rattle.nfs_values.specs.declared.answer.DirectoryEntryPlus.{DirectoryEntryPlus}
@@ -27,13 +28,13 @@ use Rattle.nfs_values.specs.declared.mount.Exports.{Exports}
 use Rattle.nfs_values.specs.declared.procedure.Procedure.{Procedure}
 use Rattle.nfs_values.specs.declared.procedure.Procedure.TheVariants as procedures
 use Rattle.nfs_values.specs.declared.mount.MountResults.{MountResults}
-use Rattle.nfs_values.specs.declared.answer.Answer.TheVariants.{Null, GetAttributes, SetAttributes, Lookup, CheckAccess, Read, Write, Create}
-use Rattle.nfs_values.specs.declared.answer.Answer.TheVariants.{MakeDirectory, Remove, RemoveDirectory, Rename, ReadDirectory}
-use Rattle.nfs_values.specs.declared.answer.Answer.TheVariants.{ReadDirectoryPlus, FilesystemStatus, FilesystemInfo, PathConfiguration}
-use Rattle.nfs_values.specs.declared.answer.Answer.TheVariants.{Commit, Unsupported, Census, Grow, Stop, Mount, ListMounts, ListExports}
+use Rattle.nfs_values.specs.declared.answer.Answer.TheVariants.{Null, GetAttributes, SetAttributes, Lookup, CheckAccess, ReadLink, Read, Write}
+use Rattle.nfs_values.specs.declared.answer.Answer.TheVariants.{Create, MakeDirectory, MakeSymbolicLink, MakeDevice, Remove, RemoveDirectory}
+use Rattle.nfs_values.specs.declared.answer.Answer.TheVariants.{Rename, MakeLink, ReadDirectory, ReadDirectoryPlus, FilesystemStatus}
+use Rattle.nfs_values.specs.declared.answer.Answer.TheVariants.{FilesystemInfo, PathConfiguration, Commit, Census, Grow, Stop, Mount}
+use Rattle.nfs_values.specs.declared.answer.Answer.TheVariants.{ListMounts, ListExports}
 use Rattle.nfs_values.specs.Attributes.{shown_of, change_of}
 use Rattle.nfs_values.specs.Status.{status_of}
-use Rattle.nfs_values.specs.Unsupported.{unsupported_of, unsupported_procedure}
 
 -- ---- what was done, as the model has it
 
@@ -49,6 +50,9 @@ looked_up r = model.LookupDone r.handle (shown_of r.object) (shown_of r.director
 abbrev pub access_told : AccessResults → model.Answer
 access_told r = model.AccessDone (shown_of r.object) r.given
 
+abbrev pub link_read : ReadLinkResults → model.Answer
+link_read r = model.ReadlinkDone (shown_of r.object) r.text
+
 abbrev pub bytes_read : ReadResults → model.Answer
 bytes_read r = model.ReadDone (length r.bytes) r.eof r.bytes
 
@@ -63,6 +67,9 @@ name_gone directory = model.GoneDone (change_of directory)
 
 abbrev pub name_moved : RenameResults → model.Answer
 name_moved r = model.RenameDone (change_of r.from) (change_of r.to)
+
+abbrev pub link_made : LinkResults → model.Answer
+link_made r = model.LinkDone (shown_of r.object) (change_of r.directory)
 
 -- an entry of a directory
 abbrev pub entry_of : DirectoryEntry → model.Listed
@@ -132,20 +139,23 @@ answer_of (GetAttributes result) = result_of attributes_shown 0 result
 answer_of (SetAttributes result) = result_of attributes_set 2 result
 answer_of (Lookup result) = result_of looked_up 1 result
 answer_of (CheckAccess result) = result_of access_told 1 result
+answer_of (ReadLink result) = result_of link_read 1 result
 answer_of (Read result) = result_of bytes_read 1 result
 answer_of (Write result) = result_of bytes_written 2 result
 answer_of (Create result) = result_of node_made 2 result
 answer_of (MakeDirectory result) = result_of node_made 2 result
+answer_of (MakeSymbolicLink result) = result_of node_made 2 result
+answer_of (MakeDevice result) = result_of node_made 2 result
 answer_of (Remove result) = result_of name_gone 2 result
 answer_of (RemoveDirectory result) = result_of name_gone 2 result
 answer_of (Rename result) = result_of name_moved 4 result
+answer_of (MakeLink result) = result_of link_made 3 result
 answer_of (ReadDirectory result) = result_of entries_listed 1 result
 answer_of (ReadDirectoryPlus result) = result_of entries_listed_plus 1 result
 answer_of (FilesystemStatus result) = result_of filesystem_status_told 1 result
 answer_of (FilesystemInfo result) = result_of info_told 1 result
 answer_of (PathConfiguration result) = result_of path_told 1 result
 answer_of (Commit result) = result_of file_committed 2 result
-answer_of (Unsupported which) = model.Failed model.NotSupported (absent_in (unsupported_of which))
 answer_of (Census volumes) = model.CensusDone (map count_of volumes.items)
 answer_of (Grow result) = result_of volume_grown 0 result
 answer_of Stop = model.StopDone
@@ -161,20 +171,23 @@ procedure_of (GetAttributes results) = procedures.GetAttributes
 procedure_of (SetAttributes results) = procedures.SetAttributes
 procedure_of (Lookup results) = procedures.Lookup
 procedure_of (CheckAccess results) = procedures.CheckAccess
+procedure_of (ReadLink results) = procedures.ReadLink
 procedure_of (Read results) = procedures.Read
 procedure_of (Write results) = procedures.Write
 procedure_of (Create results) = procedures.Create
 procedure_of (MakeDirectory results) = procedures.MakeDirectory
+procedure_of (MakeSymbolicLink results) = procedures.MakeSymbolicLink
+procedure_of (MakeDevice results) = procedures.MakeDevice
 procedure_of (Remove results) = procedures.Remove
 procedure_of (RemoveDirectory results) = procedures.RemoveDirectory
 procedure_of (Rename results) = procedures.Rename
+procedure_of (MakeLink results) = procedures.MakeLink
 procedure_of (ReadDirectory results) = procedures.ReadDirectory
 procedure_of (ReadDirectoryPlus results) = procedures.ReadDirectoryPlus
 procedure_of (FilesystemStatus results) = procedures.FilesystemStatus
 procedure_of (FilesystemInfo results) = procedures.FilesystemInfo
 procedure_of (PathConfiguration results) = procedures.PathConfiguration
 procedure_of (Commit results) = procedures.Commit
-procedure_of (Unsupported which) = unsupported_procedure which
 procedure_of (Census results) = procedures.Census
 procedure_of (Grow results) = procedures.Grow
 procedure_of Stop = procedures.Stop

@@ -1,21 +1,30 @@
 use Rattle.std.specs.Prelude.{ℕ}
 use Rattle.nfs_model.specs.Types as model
 use Rattle.nfs_values.specs.declared.attributes.FileKind.{FileKind}
-use Rattle.nfs_values.specs.declared.attributes.FileKind.TheVariants.{Regular, Directory}
+use Rattle.nfs_values.specs.declared.attributes.FileKind.TheVariants.{Regular, Directory, Special}
 use Rattle.nfs_values.specs.declared.attributes.Attributes.{Attributes}
 use Rattle.nfs_values.specs.declared.attributes.PriorAttributes.{PriorAttributes}
 use Rattle.nfs_values.specs.declared.attributes.Change.{Change}
 use Rattle.nfs_values.specs.Moment.{moment_of}
+use Rattle.nfs_values.specs.Special.{special_of, special_word, special_device, no_device}
 
 -- a kind, as the model has it
 abbrev pub kind_of : FileKind → model.Kind
 kind_of Regular = model.Regular
 kind_of Directory = model.DirectoryKind
+kind_of (Special special) = model.SpecialKind (special_of special)
 
--- NF3REG and NF3DIR (RFC 1813 section 2.6)
+-- NF3REG, NF3DIR and the others (RFC 1813 section 2.6)
 abbrev pub kind_word : model.Kind → ℕ
 kind_word model.Regular = 1
 kind_word model.DirectoryKind = 2
+kind_word (model.SpecialKind special) = special_word special
+
+-- rdev, which is zero but for devices (RFC 1813 section 2.6)
+abbrev pub kind_device : model.Kind → model.Device
+kind_device model.Regular = no_device
+kind_device model.DirectoryKind = no_device
+kind_device (model.SpecialKind special) = special_device special
 
 -- attributes, as the model has them
 abbrev pub shown_of : Attributes → model.Shown

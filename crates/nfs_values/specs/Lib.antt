@@ -8,7 +8,7 @@ pub mod Caller
 pub mod Ownership
 pub mod Standing
 pub mod Status
-pub mod Unsupported
+pub mod Special
 pub mod Attributes
 pub mod Set
 pub mod Procedure

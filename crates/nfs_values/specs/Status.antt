@@ -1,8 +1,8 @@
 use Rattle.nfs_model.specs.Types as model
 use Rattle.nfs_values.specs.declared.status.Status.{Status}
 use Rattle.nfs_values.specs.declared.status.Status.TheVariants.{NotPermitted, NoEntry, Access, Exists, CrossVolume, NotDirectory, IsDirectory, Invalid}
-use Rattle.nfs_values.specs.declared.status.Status.TheVariants.{TooBig, NoSpace, ReadOnly, NameTooLong, NotEmpty, Stale, BadHandle, NotSynchronous}
-use Rattle.nfs_values.specs.declared.status.Status.TheVariants.{BadCookie, NotSupported, TooSmall}
+use Rattle.nfs_values.specs.declared.status.Status.TheVariants.{TooBig, NoSpace, ReadOnly, TooManyLinks, NameTooLong, NotEmpty, Stale, BadHandle}
+use Rattle.nfs_values.specs.declared.status.Status.TheVariants.{NotSynchronous, BadCookie, TooSmall, BadType}
 
 -- a status, as the model has it
 abbrev pub status_of : Status → model.Status
@@ -17,11 +17,12 @@ status_of Invalid = model.Invalid
 status_of TooBig = model.TooBig
 status_of NoSpace = model.NoSpace
 status_of ReadOnly = model.ReadOnly
+status_of TooManyLinks = model.TooManyLinks
 status_of NameTooLong = model.NameTooLong
 status_of NotEmpty = model.NotEmpty
 status_of Stale = model.Stale
 status_of BadHandle = model.BadHandle
 status_of NotSynchronous = model.NotSynchronous
 status_of BadCookie = model.BadCookie
-status_of NotSupported = model.NotSupported
 status_of TooSmall = model.TooSmall
+status_of BadType = model.BadType

@@ -8,7 +8,6 @@ use crate::name::Name;
 use crate::number::{Cookie, Fileid, VolumeNumber};
 use crate::procedure::Procedure;
 use crate::status::Status;
-use crate::unsupported::UnsupportedProcedure;
 use crate::verifier::Verifier;
 
 /// LOOKUP3resok (RFC 1813 section 3.3.3).
@@ -25,6 +24,20 @@ pub struct AccessResults {
     pub object: Attributes,
     /// Of the bits that were asked for, those that are given.
     pub given: u32,
+}
+
+/// READLINK3resok (RFC 1813 section 3.3.5).
+pub struct ReadLinkResults {
+    pub object: Attributes,
+    /// What the link stands for.
+    pub text: Name,
+}
+
+// By hand, so that crates above have no proof of the drop of each of its parts.
+impl Drop for ReadLinkResults {
+    fn drop(self) {
+        let ReadLinkResults { object: _, text: _ } = self;
+    }
 }
 
 /// READ3resok (RFC 1813 section 3.3.6), whose count is that of the bytes.
@@ -47,7 +60,7 @@ pub struct WriteResults {
     pub verifier: Verifier,
 }
 
-/// CREATE3resok and MKDIR3resok (RFC 1813 sections 3.3.8 and 3.3.9).
+/// CREATE3resok, MKDIR3resok, SYMLINK3resok and MKNOD3resok (RFC 1813 sections 3.3.8 to 3.3.11).
 #[derive(Drop)]
 pub struct MakeResults {
     pub handle: FileHandle,
@@ -60,6 +73,14 @@ pub struct MakeResults {
 pub struct RenameResults {
     pub from: Change,
     pub to: Change,
+}
+
+/// LINK3res, where the link is made (RFC 1813 section 3.3.15): what has one more name, and the
+/// directory.
+#[derive(Clone, Copy)]
+pub struct LinkResults {
+    pub object: Attributes,
+    pub directory: Change,
 }
 
 /// An entry of a directory (entry3, RFC 1813 section 3.3.16).
@@ -164,23 +185,25 @@ pub enum Answer {
     SetAttributes(Result<Change, Status>),
     Lookup(Result<LookupResults, Status>),
     CheckAccess(Result<AccessResults, Status>),
+    ReadLink(Result<ReadLinkResults, Status>),
     Read(Result<ReadResults, Status>),
     Write(Result<WriteResults, Status>),
     Create(Result<MakeResults, Status>),
     MakeDirectory(Result<MakeResults, Status>),
+    MakeSymbolicLink(Result<MakeResults, Status>),
+    MakeDevice(Result<MakeResults, Status>),
     /// The directory.
     Remove(Result<Change, Status>),
     /// The directory.
     RemoveDirectory(Result<Change, Status>),
     Rename(Result<RenameResults, Status>),
+    MakeLink(Result<LinkResults, Status>),
     ReadDirectory(Result<ReadDirectoryResults, Status>),
     ReadDirectoryPlus(Result<ReadDirectoryPlusResults, Status>),
     FilesystemStatus(Result<FilesystemStatusResults, Status>),
     FilesystemInfo(Result<FilesystemInfoResults, Status>),
     PathConfiguration(Result<PathConfigurationResults, Status>),
     Commit(Result<CommitResults, Status>),
-    /// NFS3ERR_NOTSUPP, of a procedure on links or devices.
-    Unsupported(UnsupportedProcedure),
     /// Of CENSUS of the admin program, which never fails: the volumes in order.
     Census(Vec<VolumeCount>),
     /// Of GROW of the admin program: the volume's blocks.
@@ -204,20 +227,23 @@ impl Drop for Answer {
             Answer::SetAttributes(_) => {}
             Answer::Lookup(_) => {}
             Answer::CheckAccess(_) => {}
+            Answer::ReadLink(_) => {}
             Answer::Read(_) => {}
             Answer::Write(_) => {}
             Answer::Create(_) => {}
             Answer::MakeDirectory(_) => {}
+            Answer::MakeSymbolicLink(_) => {}
+            Answer::MakeDevice(_) => {}
             Answer::Remove(_) => {}
             Answer::RemoveDirectory(_) => {}
             Answer::Rename(_) => {}
+            Answer::MakeLink(_) => {}
             Answer::ReadDirectory(_) => {}
             Answer::ReadDirectoryPlus(_) => {}
             Answer::FilesystemStatus(_) => {}
             Answer::FilesystemInfo(_) => {}
             Answer::PathConfiguration(_) => {}
             Answer::Commit(_) => {}
-            Answer::Unsupported(_) => {}
             Answer::Census(_) => {}
             Answer::Grow(_) => {}
             Answer::Stop => {}
@@ -242,20 +268,23 @@ impl Answer {
             Answer::SetAttributes(_) => Procedure::SetAttributes,
             Answer::Lookup(_) => Procedure::Lookup,
             Answer::CheckAccess(_) => Procedure::CheckAccess,
+            Answer::ReadLink(_) => Procedure::ReadLink,
             Answer::Read(_) => Procedure::Read,
             Answer::Write(_) => Procedure::Write,
             Answer::Create(_) => Procedure::Create,
             Answer::MakeDirectory(_) => Procedure::MakeDirectory,
+            Answer::MakeSymbolicLink(_) => Procedure::MakeSymbolicLink,
+            Answer::MakeDevice(_) => Procedure::MakeDevice,
             Answer::Remove(_) => Procedure::Remove,
             Answer::RemoveDirectory(_) => Procedure::RemoveDirectory,
             Answer::Rename(_) => Procedure::Rename,
+            Answer::MakeLink(_) => Procedure::MakeLink,
             Answer::ReadDirectory(_) => Procedure::ReadDirectory,
             Answer::ReadDirectoryPlus(_) => Procedure::ReadDirectoryPlus,
             Answer::FilesystemStatus(_) => Procedure::FilesystemStatus,
             Answer::FilesystemInfo(_) => Procedure::FilesystemInfo,
             Answer::PathConfiguration(_) => Procedure::PathConfiguration,
             Answer::Commit(_) => Procedure::Commit,
-            Answer::Unsupported(which) => which.procedure(),
             Answer::Census(_) => Procedure::Census,
             Answer::Grow(_) => Procedure::Grow,
             Answer::Stop => Procedure::Stop,
@@ -268,6 +297,7 @@ impl Answer {
     /// Whether they have memory of their own.
     pub fn has_memory(&self) -> bool {
         match self {
+            Answer::ReadLink(_) => true,
             Answer::Read(_) => true,
             Answer::ReadDirectory(_) => true,
             Answer::ReadDirectoryPlus(_) => true,
@@ -280,14 +310,16 @@ impl Answer {
             Answer::Write(_) => false,
             Answer::Create(_) => false,
             Answer::MakeDirectory(_) => false,
+            Answer::MakeSymbolicLink(_) => false,
+            Answer::MakeDevice(_) => false,
             Answer::Remove(_) => false,
             Answer::RemoveDirectory(_) => false,
             Answer::Rename(_) => false,
+            Answer::MakeLink(_) => false,
             Answer::FilesystemStatus(_) => false,
             Answer::FilesystemInfo(_) => false,
             Answer::PathConfiguration(_) => false,
             Answer::Commit(_) => false,
-            Answer::Unsupported(_) => false,
             Answer::Grow(_) => false,
             Answer::Stop => false,
             Answer::Mount(_) => false,

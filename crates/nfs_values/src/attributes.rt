@@ -1,25 +1,43 @@
-//! Attributes of files and directories.
+//! Attributes of objects.
 
 ghost use Rattle.std.specs.Prelude.{◌≡◌};
 
 use crate::moment::Moment;
 use crate::number::Fileid;
+use crate::special::{Device, SpecialType};
 
 /// What a node is (ftype3, RFC 1813 section 2.6).
 #[derive(Clone, Copy, Debug, PartialEq, Eq)]
 pub enum FileKind {
-    Regular = 1,
-    Directory = 2,
+    Regular,
+    Directory,
+    Special(SpecialType),
 }
 
 impl FileKind {
-    ghost use Rattle.nfs_values.specs.Attributes.{kind_of, kind_word};
+    ghost use Rattle.nfs_values.specs.Attributes.{kind_of, kind_word, kind_device};
+    ghost use Rattle.nfs_values.specs.Special.{device_of};
 
     /// The number of a kind.
     pub fn word(self) -> u32
         ensures { result ≡ kind_word (kind_of self) }
     {
-        self as u32
+        match self {
+            FileKind::Regular => 1,
+            FileKind::Directory => 2,
+            FileKind::Special(special) => special.word(),
+        }
+    }
+
+    /// The numbers of a device, zero for all else (rdev of fattr3, RFC 1813 section 2.6).
+    pub fn device(self) -> Device
+        ensures { device_of result ≡ kind_device (kind_of self) }
+    {
+        match self {
+            FileKind::Regular => Device::NONE,
+            FileKind::Directory => Device::NONE,
+            FileKind::Special(special) => special.device(),
+        }
     }
 }
 

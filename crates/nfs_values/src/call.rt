@@ -5,6 +5,7 @@ ghost use Rattle.nfs_model.specs.Route.{route};
 ghost use Rattle.nfs_values.specs.Call.{call_of, call_with};
 ghost use Rattle.nfs_values.specs.Route.{route_of};
 
+use crate::attributes::FileKind;
 use crate::bytes::BytesToWrite;
 use crate::handle::{FileHandle, HandleMap};
 use crate::moment::Moment;
@@ -14,7 +15,6 @@ use crate::number::{Cookie, VolumeNumber};
 use crate::route::Route;
 use crate::set::{CreateMode, SetAttributes};
 use crate::target::Target;
-use crate::unsupported::UnsupportedProcedure;
 use crate::verifier::Verifier;
 
 /// A call with its arguments (RFC 1813 section 3.3). A handle is the bytes that came, good or bad.
@@ -38,6 +38,9 @@ pub enum Call {
         /// The bits of what the caller asks whether it may do.
         asked: u32,
     },
+    ReadLink {
+        handle: FileHandle,
+    },
     Read {
         handle: FileHandle,
         offset: u64,
@@ -57,11 +60,28 @@ pub enum Call {
         target: Target,
         set: SetAttributes,
     },
+    MakeSymbolicLink {
+        target: Target,
+        set: SetAttributes,
+        /// What the link stands for, which is never followed.
+        text: Name,
+    },
+    MakeDevice {
+        target: Target,
+        kind: FileKind,
+        /// Nothing, where the kind is one that MKNOD doesn't make.
+        set: SetAttributes,
+    },
     Remove(Target),
     RemoveDirectory(Target),
     Rename {
         from: Target,
         to: Target,
+    },
+    MakeLink {
+        /// What gets one more name.
+        handle: FileHandle,
+        target: Target,
     },
     ReadDirectory {
         directory: FileHandle,
@@ -91,8 +111,6 @@ pub enum Call {
     Commit {
         handle: FileHandle,
     },
-    /// One on links or devices, without its arguments.
-    Unsupported(UnsupportedProcedure),
     /// CENSUS of the admin program.
     Census,
     /// GROW of the admin program.
@@ -128,6 +146,7 @@ impl Drop for Call {
                 handle: _,
                 asked: _,
             } => {}
+            Call::ReadLink { handle: _ } => {}
             Call::Read {
                 handle: _,
                 offset: _,
@@ -141,9 +160,23 @@ impl Drop for Call {
             } => {}
             Call::Create { target: _, mode: _ } => {}
             Call::MakeDirectory { target: _, set: _ } => {}
+            Call::MakeSymbolicLink {
+                target: _,
+                set: _,
+                text: _,
+            } => {}
+            Call::MakeDevice {
+                target: _,
+                kind: _,
+                set: _,
+            } => {}
             Call::Remove(_) => {}
             Call::RemoveDirectory(_) => {}
             Call::Rename { from: _, to: _ } => {}
+            Call::MakeLink {
+                handle: _,
+                target: _,
+            } => {}
             Call::ReadDirectory {
                 directory: _,
                 cookie: _,
@@ -161,7 +194,6 @@ impl Drop for Call {
             Call::FilesystemInfo { handle: _ } => {}
             Call::PathConfiguration { handle: _ } => {}
             Call::Commit { handle: _ } => {}
-            Call::Unsupported(_) => {}
             Call::Census => {}
             Call::Grow {
                 volume: _,
@@ -187,6 +219,7 @@ impl Call {
                 handle: &target.directory,
             },
             Call::CheckAccess { handle, .. } => Route::Names { handle },
+            Call::ReadLink { handle } => Route::Names { handle },
             Call::Read {
                 handle,
                 offset,
@@ -212,6 +245,12 @@ impl Call {
             Call::MakeDirectory { target, .. } => Route::Names {
                 handle: &target.directory,
             },
+            Call::MakeSymbolicLink { target, .. } => Route::Names {
+                handle: &target.directory,
+            },
+            Call::MakeDevice { target, .. } => Route::Names {
+                handle: &target.directory,
+            },
             Call::Remove(target) => Route::Names {
                 handle: &target.directory,
             },
@@ -222,13 +261,16 @@ impl Call {
                 from: &from.directory,
                 to: &to.directory,
             },
+            Call::MakeLink { handle, target } => Route::TwoHandles {
+                from: handle,
+                to: &target.directory,
+            },
             Call::ReadDirectory { directory, .. } => Route::Names { handle: directory },
             Call::ReadDirectoryPlus { directory, .. } => Route::Names { handle: directory },
             Call::FilesystemStatus { handle } => Route::Volume { handle },
             Call::FilesystemInfo { handle } => Route::Names { handle },
             Call::PathConfiguration { handle } => Route::Names { handle },
             Call::Commit { handle } => Route::Names { handle },
-            Call::Unsupported(_) => Route::AtOnce,
             Call::Census => Route::Everything,
             Call::Grow { volume, .. } => Route::Aggregate { volume: *volume },
             Call::Stop => Route::AtOnce,
@@ -249,9 +291,23 @@ impl Call {
             } => true,
             Call::Create { target: _, mode: _ } => true,
             Call::MakeDirectory { target: _, set: _ } => true,
+            Call::MakeSymbolicLink {
+                target: _,
+                set: _,
+                text: _,
+            } => true,
+            Call::MakeDevice {
+                target: _,
+                kind: _,
+                set: _,
+            } => true,
             Call::Remove(_) => true,
             Call::RemoveDirectory(_) => true,
             Call::Rename { from: _, to: _ } => true,
+            Call::MakeLink {
+                handle: _,
+                target: _,
+            } => true,
             Call::Null => false,
             Call::GetAttributes { handle: _ } => false,
             Call::SetAttributes {
@@ -263,6 +319,7 @@ impl Call {
                 handle: _,
                 asked: _,
             } => false,
+            Call::ReadLink { handle: _ } => false,
             Call::Read {
                 handle: _,
                 offset: _,
@@ -285,7 +342,6 @@ impl Call {
             Call::FilesystemInfo { handle: _ } => false,
             Call::PathConfiguration { handle: _ } => false,
             Call::Commit { handle: _ } => false,
-            Call::Unsupported(_) => false,
             Call::Census => false,
             Call::Grow {
                 volume: _,
@@ -310,16 +366,19 @@ impl Call {
             Call::GetAttributes { .. } => false,
             Call::Lookup(_) => false,
             Call::CheckAccess { .. } => false,
+            Call::ReadLink { .. } => false,
             Call::Read { .. } => false,
             Call::MakeDirectory { .. } => false,
+            Call::MakeSymbolicLink { .. } => false,
+            Call::MakeDevice { .. } => false,
             Call::RemoveDirectory(_) => false,
+            Call::MakeLink { .. } => false,
             Call::ReadDirectory { .. } => false,
             Call::ReadDirectoryPlus { .. } => false,
             Call::FilesystemStatus { .. } => false,
             Call::FilesystemInfo { .. } => false,
             Call::PathConfiguration { .. } => false,
             Call::Commit { .. } => false,
-            Call::Unsupported(_) => false,
             Call::Census => false,
             Call::Stop => false,
             Call::Mount(_) => false,
@@ -336,15 +395,22 @@ impl Call {
             Call::SetAttributes { handle, .. } => put_made(handle, map),
             Call::Lookup(target) => put_made(&mut target.directory, map),
             Call::CheckAccess { handle, .. } => put_made(handle, map),
+            Call::ReadLink { handle } => put_made(handle, map),
             Call::Read { handle, .. } => put_made(handle, map),
             Call::Write { handle, .. } => put_made(handle, map),
             Call::Create { target, .. } => put_made(&mut target.directory, map),
             Call::MakeDirectory { target, .. } => put_made(&mut target.directory, map),
+            Call::MakeSymbolicLink { target, .. } => put_made(&mut target.directory, map),
+            Call::MakeDevice { target, .. } => put_made(&mut target.directory, map),
             Call::Remove(target) => put_made(&mut target.directory, map),
             Call::RemoveDirectory(target) => put_made(&mut target.directory, map),
             Call::Rename { from, to } => {
                 put_made(&mut from.directory, map);
                 put_made(&mut to.directory, map);
+            }
+            Call::MakeLink { handle, target } => {
+                put_made(handle, map);
+                put_made(&mut target.directory, map);
             }
             Call::ReadDirectory { directory, .. } => put_made(directory, map),
             Call::ReadDirectoryPlus { directory, .. } => put_made(directory, map),
@@ -353,7 +419,6 @@ impl Call {
             Call::PathConfiguration { handle } => put_made(handle, map),
             Call::Commit { handle } => put_made(handle, map),
             Call::Null
-            | Call::Unsupported(_)
             | Call::Census
             | Call::Grow { .. }
             | Call::Stop

@@ -22,10 +22,10 @@ mod reply;
 mod route;
 mod set;
 mod short_name;
+mod special;
 mod standing;
 mod status;
 mod target;
-mod unsupported;
 mod verifier;
 
 pub use answer::Answer;
@@ -36,8 +36,8 @@ pub use caller::{Caller, PeerAddress};
 pub use credential::{Credential, GroupList};
 pub use handle::{FileHandle, HandleMap, Named};
 pub use limits::{
-    BLOCK_BYTES, COUNT_LIMIT, HANDLE_BYTES, MILLISECONDS_OF_A_SECOND, NANOSECONDS_OF_A_MILLISECOND,
-    NANOSECONDS_OF_A_SECOND, SPAN_BLOCKS, SPAN_BYTES,
+    BLOCK_BYTES, COUNT_LIMIT, HANDLE_BYTES, MILLISECONDS_OF_A_SECOND, MOST_LINKS, MOST_TEXT,
+    NANOSECONDS_OF_A_MILLISECOND, NANOSECONDS_OF_A_SECOND, SPAN_BLOCKS, SPAN_BYTES,
 };
 pub use moment::Moment;
 pub use mount::{Exports, MountCall, MountResults, export_path};
@@ -50,8 +50,8 @@ pub use procedure_set::ProcedureSet;
 pub use reply::{AuthFault, Refusal, Reply};
 pub use route::Route;
 pub use set::{CreateMode, SetAttributes, SetTime};
+pub use special::{Device, SpecialType};
 pub use standing::{Squash, Standing};
 pub use status::Status;
 pub use target::Target;
-pub use unsupported::UnsupportedProcedure;
 pub use verifier::Verifier;

@@ -15,6 +15,12 @@ pub const HANDLE_BYTES: usize = 12;
 /// Larger counts of READ, WRITE, READDIR and READDIRPLUS are taken as this.
 pub const COUNT_LIMIT: u32 = 65_536;
 
+/// The most names of what isn't a directory.
+pub const MOST_LINKS: u32 = 65_000;
+
+/// The most bytes of the text of a symbolic link.
+pub const MOST_TEXT: usize = 1_024;
+
 /// The nanoseconds of a second: those of a moment are fewer (RFC 1813 section 2.6).
 pub const NANOSECONDS_OF_A_SECOND: u32 = 1_000_000_000;
 

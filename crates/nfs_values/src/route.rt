@@ -24,7 +24,7 @@ pub enum Route<'a> {
         offset: u64,
         count: u32,
     },
-    /// Names in two directories.
+    /// Names and attributes of one volume, which two handles name.
     TwoHandles {
         from: &'a FileHandle,
         to: &'a FileHandle,

@@ -25,6 +25,18 @@ pub struct SetAttributes {
     pub mtime: SetTime,
 }
 
+impl SetAttributes {
+    /// Nothing is set.
+    pub const NOTHING: SetAttributes = SetAttributes {
+        mode: None,
+        uid: None,
+        gid: None,
+        size: None,
+        atime: SetTime::Keep,
+        mtime: SetTime::Keep,
+    };
+}
+
 /// How a file is created (createhow3, RFC 1813 section 3.3.8).
 #[derive(Clone, Copy, PartialEq, Eq)]
 pub enum CreateMode {

@@ -16,14 +16,15 @@ pub enum Status {
     TooBig = 27,
     NoSpace = 28,
     ReadOnly = 30,
+    TooManyLinks = 31,
     NameTooLong = 63,
     NotEmpty = 66,
     Stale = 70,
     BadHandle = 10001,
     NotSynchronous = 10002,
     BadCookie = 10003,
-    NotSupported = 10004,
     TooSmall = 10005,
+    BadType = 10007,
 }
 
 impl Status {

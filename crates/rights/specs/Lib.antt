@@ -1,4 +1,3 @@
 pub mod Protection
 pub mod Refusing
-pub mod Setting
 pub mod Making

@@ -1,4 +1,5 @@
-//! Attributes of what a caller makes (CREATE and MKDIR, RFC 1813 sections 3.3.8 and 3.3.9).
+//! Attributes of what a caller makes (CREATE, MKDIR, SYMLINK and MKNOD, RFC 1813 sections 3.3.8 to
+//! 3.3.11).
 
 ghost use Rattle.std.specs.Prelude.{◌≡◌, ◌<◌, ◌≤◌};
 ghost use Rattle.nfs_model.specs.Serial.Create.{
@@ -7,7 +8,6 @@ ghost use Rattle.nfs_model.specs.Serial.Create.{
   made_gid,
   made_mode,
   made_uid,
-  no_attributes,
   over_taken,
 };
 ghost use Rattle.nfs_model.specs.Serial.Rights.{group_made, owned};
@@ -23,17 +23,7 @@ use crate::bits::{SET_GID, with_bit};
 use crate::mode::is_in_group;
 use crate::protection::Protection;
 use crate::setting::mode_of_group;
-use nfs_values::{Caller, Credential, FileKind, Ownership, SetAttributes, SetTime};
-
-/// Attributes that give nothing.
-pub const NO_ATTRIBUTES: SetAttributes = SetAttributes {
-    mode: None,
-    uid: None,
-    gid: None,
-    size: None,
-    atime: SetTime::Keep,
-    mtime: SetTime::Keep,
-};
+use nfs_values::{Caller, Credential, FileKind, Ownership, SetAttributes};
 
 /// What UNCHECKED sets of a file that is there: where callers are checked its size alone, since
 /// the others are of a new file (RFC 1813 section 3.3.8).
@@ -45,7 +35,7 @@ pub fn over_taken(caller: &Caller, set: &SetAttributes) -> SetAttributes
     }
     SetAttributes {
         size: set.size,
-        ..NO_ATTRIBUTES
+        ..SetAttributes::NOTHING
     }
 }
 
@@ -139,6 +129,7 @@ impl Maker<'_> {
         match kind {
             FileKind::Regular => mode_of_group(&self.caller.credential, gid, mode) as u16,
             FileKind::Directory => self.mode_of_directory(gid, mode) as u16,
+            FileKind::Special(_) => mode_of_group(&self.caller.credential, gid, mode) as u16,
         }
     }
 }

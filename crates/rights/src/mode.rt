@@ -4,6 +4,7 @@ ghost use Rattle.std.specs.Prelude.{◌≡◌};
 ghost use Rattle.nfs_model.specs.Serial.Rights.{
   digit_for,
   digit_rights,
+  has_x,
   is_executable,
   is_in_group,
   mode_of_group,
@@ -59,13 +60,21 @@ fn digit_for(who: &Credential, object: &Protection) -> u32
     object.mode() % 8
 }
 
-/// Whether uid 0 may execute an object: a file where somebody may, and every directory.
+/// Whether somebody has x by a mode.
+fn has_x(mode: u32) -> bool
+    ensures { result ≡ has_x mode }
+{
+    has_bit(mode, 64) || has_bit(mode, 8) || has_bit(mode, 1)
+}
+
+/// Whether uid 0 may execute an object: every directory, and all else where somebody may.
 fn is_executable(kind: FileKind, mode: u32) -> bool
     ensures { result ≡ is_executable (kind_of kind) mode }
 {
     match kind {
-        FileKind::Regular => has_bit(mode, 64) || has_bit(mode, 8) || has_bit(mode, 1),
+        FileKind::Regular => has_x(mode),
         FileKind::Directory => true,
+        FileKind::Special(_) => has_x(mode),
     }
 }
 

@@ -1,16 +1,18 @@
 //! Which calls are refused (RFC 1813 section 2.5: ACCES, PERM and ROFS).
 
-ghost use Rattle.std.specs.Prelude.{◌≡◌, ◌||◌, false, Option};
+ghost use Rattle.std.specs.Prelude.{◌≡◌, ◌==◌, ◌||◌, false, not, Option};
 ghost use Rattle.std.specs.Option.{option_map};
 ghost use Rattle.nfs_model.specs.Serial.Permission.{
+  is_device,
   needs,
   refusal_of,
   reserved,
   write_refusal,
 };
-ghost use Rattle.nfs_model.specs.Serial.Rights.{may_read, may_write, owned};
+ghost use Rattle.nfs_model.specs.Serial.Rights.{may_read, owned};
 ghost use Rattle.nfs_model.specs.Types as types;
 ghost use Rattle.nfs_model.specs.Types.{Regular};
+ghost use Rattle.nfs_values.specs.Attributes.{kind_of};
 ghost use Rattle.nfs_values.specs.Caller.{caller_of};
 ghost use Rattle.nfs_values.specs.Credential.{credential_of};
 ghost use Rattle.nfs_values.specs.Ownership.{ownership_of};
@@ -20,7 +22,7 @@ ghost use Rattle.rights.specs.Refusing.{asked_next, set_ids_cleared};
 use crate::bits::without_set_ids;
 use crate::granting::{may_read, may_write};
 use crate::protection::Protection;
-use nfs_values::{Caller, Ownership, Status};
+use nfs_values::{Caller, Credential, FileKind, Ownership, SpecialType, Status};
 
 /// ACCES where a right is missing.
 pub fn needs(is_given: bool) -> Option<Status>
@@ -40,6 +42,25 @@ pub(crate) fn reserved(is_given: bool) -> Option<Status>
         return None;
     }
     Some(Status::NotPermitted)
+}
+
+/// Whether a kind is that of a device.
+fn is_device(kind: FileKind) -> bool
+    ensures { result ≡ is_device (kind_of kind) }
+{
+    match kind {
+        FileKind::Special(SpecialType::BlockDevice(_)) => true,
+        FileKind::Special(SpecialType::CharacterDevice(_)) => true,
+        _ => false,
+    }
+}
+
+/// PERM where another than uid 0 makes a device (MKNOD, RFC 1813 section 3.3.11).
+pub fn device_fault(who: &Credential, kind: FileKind) -> Option<Status>
+    ensures { option_map status_of result
+        ≡ reserved (not (is_device (kind_of kind)) || (who.now.uid == 0)) }
+{
+    reserved(!is_device(kind) || who.uid == 0)
 }
 
 /// What is asked of a caller before its rights: ROFS where it may change nothing and the call is a
@@ -82,20 +103,6 @@ pub fn write_refusal(caller: &Caller, owner: Ownership) -> Option<Status>
 {
     let file = Protection::of_file(owner);
     refusal_of(caller, true, needs(may_write(&caller.credential, &file)))
-}
-
-/// A refusal of a COMMIT of a file (RFC 1813 section 3.3.21).
-pub fn commit_refusal(caller: &Caller, owner: Ownership) -> Option<Status>
-    ensures { option_map status_of result ≡ refusal_of (caller_of caller.now) false
-        (needs (may_read (credential_of caller.now.credential)
-        (owned Regular (ownership_of owner))
-        || may_write (credential_of caller.now.credential)
-        (owned Regular (ownership_of owner)))) }
-{
-    let who = &caller.credential;
-    let file = Protection::of_file(owner);
-    let may = may_read(who, &file) || may_write(who, &file);
-    refusal_of(caller, false, needs(may))
 }
 
 /// Whether a caller's WRITE to a file ends that it is run as its owner or its group.

@@ -9,16 +9,13 @@ ghost use Rattle.nfs_model.specs.Serial.Permission.{
   set_refusal,
   sets_owned,
 };
-ghost use Rattle.nfs_model.specs.Serial.Rights.{mode_of_group, owned};
-ghost use Rattle.nfs_model.specs.Serial.Setattr.{mode_kept, mode_taken};
-ghost use Rattle.nfs_model.specs.Types.{Regular};
+ghost use Rattle.nfs_model.specs.Serial.Rights.{mode_of_group};
+ghost use Rattle.nfs_model.specs.Serial.Setattr.{mode_checked, mode_kept, mode_taken};
 ghost use Rattle.nfs_values.specs.Caller.{caller_of};
 ghost use Rattle.nfs_values.specs.Credential.{credential_of};
-ghost use Rattle.nfs_values.specs.Ownership.{ownership_of};
 ghost use Rattle.nfs_values.specs.Set.{set_of, time_of};
 ghost use Rattle.nfs_values.specs.Status.{status_of};
 ghost use Rattle.rights.specs.Protection.{protection_of};
-ghost use Rattle.rights.specs.Setting.{file_set_taken};
 
 use crate::bits::{SET_GID, without_bit, without_set_ids};
 use crate::granting::may_write;
@@ -117,38 +114,39 @@ fn ends_set_ids(who: &Credential, set: &SetAttributes) -> bool
     set.uid.is_some() || set.gid.is_some() || (set.size.is_some() && who.uid != 0)
 }
 
-/// The mode of a file that is set without one.
-fn mode_kept(who: &Credential, set: &SetAttributes, owner: Ownership) -> Option<u32>
+/// The mode of what isn't a directory and is set without one.
+fn mode_kept(who: &Credential, set: &SetAttributes, object: &Protection) -> Option<u32>
     ensures { result ≡ mode_kept (credential_of who.now) (set_of set.now)
-        (owned Regular (ownership_of owner)) }
+        (protection_of object.now) }
 {
     if ends_set_ids(who, set) {
-        return Some(u32::from(without_set_ids(owner.mode)));
+        return Some(u32::from(without_set_ids(object.owner.mode)));
     }
     None
 }
 
-/// The mode of a file that is set, by the group that it comes to have.
-fn mode_taken(who: &Credential, set: &SetAttributes, owner: Ownership) -> Option<u32>
+/// The mode of what isn't a directory and is set, by the group that it comes to have.
+fn mode_taken(who: &Credential, set: &SetAttributes, object: &Protection) -> Option<u32>
     ensures { result ≡ mode_taken (credential_of who.now) (set_of set.now)
-        (owned Regular (ownership_of owner)) set.now.mode }
+        (protection_of object.now) set.now.mode }
 {
     match set.mode {
-        Some(mode) => Some(mode_of_group(who, set.gid.unwrap_or(owner.gid), mode)),
-        None => mode_kept(who, set, owner),
+        Some(mode) => Some(mode_of_group(who, set.gid.unwrap_or(object.owner.gid), mode)),
+        None => mode_kept(who, set, object),
     }
 }
 
-/// What a caller sets of a file with this owner.
-pub fn file_set_taken(caller: &Caller, set: &SetAttributes, owner: Ownership) -> SetAttributes
-    ensures { set_of result ≡ file_set_taken (caller_of caller.now) (set_of set.now)
-        (ownership_of owner) }
+/// What a caller sets of what isn't a directory: where it is checked, with the mode that it may
+/// give.
+pub fn set_checked(caller: &Caller, set: &SetAttributes, object: &Protection) -> SetAttributes
+    ensures { set_of result ≡ mode_checked (caller_of caller.now) (set_of set.now)
+        (protection_of object.now) }
 {
     if !caller.is_checked {
         return *set;
     }
     SetAttributes {
-        mode: mode_taken(&caller.credential, set, owner),
+        mode: mode_taken(&caller.credential, set, object),
         ..*set
     }
 }

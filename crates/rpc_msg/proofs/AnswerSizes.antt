@@ -75,6 +75,11 @@ failed_size status absent = omega (arith, length-absent_parts absent)
 pub read_size : (count : ℕ) (eof : Bool) (bytes : List ℕ) (most : ℕ) → length bytes ≤ most → Takes (20 + padded_size most) (model.ReadDone count eof bytes)
 read_size count eof bytes most h = record { bytes = omega (arith, length-padded bytes, padded_more (length bytes) most h) }
 
+-- a text of at most this many bytes
+pub readlink_size : (object : model.Shown) (text : List ℕ) (most : ℕ) → length text ≤ most
+    → Takes (96 + padded_size most) (model.ReadlinkDone object text)
+readlink_size object text most h = record { bytes = omega (arith, length-padded text, padded_more (length text) most h) }
+
 -- ---- entries
 
 -- the bytes of entries, without the flags of the list's end

@@ -70,6 +70,8 @@ fn tell_in_run(answer: &mut Answer, run: u64)
         Answer::Lookup(Ok(results)) => tell_handle(&mut results.handle, run),
         Answer::Create(Ok(results)) => tell_handle(&mut results.handle, run),
         Answer::MakeDirectory(Ok(results)) => tell_handle(&mut results.handle, run),
+        Answer::MakeSymbolicLink(Ok(results)) => tell_handle(&mut results.handle, run),
+        Answer::MakeDevice(Ok(results)) => tell_handle(&mut results.handle, run),
         Answer::ReadDirectoryPlus(Ok(results)) => tell_entries(&mut results.entries, run),
         Answer::Mount(Ok(results)) => tell_handle(&mut results.handle, run),
         _ => {}

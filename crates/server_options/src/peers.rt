@@ -1,7 +1,8 @@
 //! Whose connections are served.
 
 ghost use Rattle.std.specs.Prelude.{◌↔◌, Any, IsTrue};
-ghost use Rattle.server_options.specs.Peers.{ComesFrom, IsAt, IsHere, IsNamed, IsOwnV6, IsWriterBeyond};
+ghost use Rattle.server_options.specs.Peers.{ComesFrom, IsAt, IsHere, IsNamed};
+ghost use Rattle.server_options.specs.Peers.{IsOwnV6, IsWriterBeyond};
 ghost use Rattle.server_options.specs.Peers.{MayStop, OnlyReads, ReadsBy, Serves};
 
 use crate::allowed::AllowedNetwork;

@@ -43,7 +43,7 @@ stays-sound p memos hands made s =
         largest = w.largest;
         most_inodes = w.most_inodes;
         size = w.size;
-        logical = record { inodes = l.inodes; few = l.few; sizes = l.sizes; named = l.named };
+        logical = record { inodes = l.inodes; few = l.few; sizes = l.sizes; named = l.named; texts = l.texts };
         as_many = w.as_many;
         stripes = λ i less. let f = w.stripes i less in record {
           verifier = f.verifier;
@@ -80,9 +80,12 @@ not-kept : (call : types.Call) → is_done_once call ≡ false → change_of cal
 not-kept (types.Setattr handle set guard) e = absurd cc
 not-kept (types.Create directory name mode) e = absurd cc
 not-kept (types.Mkdir directory name set) e = absurd cc
+not-kept (types.Symlink directory name set text) e = absurd cc
+not-kept (types.Mknod directory name kind set) e = absurd cc
 not-kept (types.Remove directory name) e = absurd cc
 not-kept (types.Rmdir directory name) e = absurd cc
 not-kept (types.Rename from from_name to to_name) e = absurd cc
+not-kept (types.Link handle directory name) e = absurd cc
 not-kept call e = refl
 
 not-moved : (call : types.Call) (c : VolumeCall) (p : VolumeContents) → is_done_once call ≡ true → move_of_located call c p ≡ None
@@ -103,7 +106,10 @@ says-nothing (types.Create directory name mode) node s e = emptied-none s.parts 
 says-nothing (types.Remove directory name) node s e = emptied-none s.parts s.parts (emptied_by s s) (omega arith) refl refl refl refl
 says-nothing (types.Rename from from_name to to_name) node s e = emptied-none s.parts s.parts (emptied_by s s) (omega arith) refl refl refl refl
 says-nothing (types.Mkdir directory name set) node s e = refl
+says-nothing (types.Symlink directory name set text) node s e = refl
+says-nothing (types.Mknod directory name kind set) node s e = refl
 says-nothing (types.Rmdir directory name) node s e = refl
+says-nothing (types.Link handle directory name) node s e = refl
 says-nothing call node s e = absurd cc
 
 answer-in : (a b : Answer) → Success a ≡ Success b → a ≡ b

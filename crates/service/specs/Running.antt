@@ -14,8 +14,10 @@ use Rattle.nfs_model.specs.Serial.Pathconf.{pathconf}
 use Rattle.nfs_model.specs.Serial.Commit.{commit}
 use Rattle.nfs_model.specs.Serial.Create.{create}
 use Rattle.nfs_model.specs.Serial.Fsstat.{fsstat}
+use Rattle.nfs_model.specs.Serial.Link.{link}
 use Rattle.nfs_model.specs.Serial.Lookup.{lookup}
 use Rattle.nfs_model.specs.Serial.Mkdir.{mkdir}
+use Rattle.nfs_model.specs.Serial.Mknod.{mknod}
 use Rattle.nfs_model.specs.Serial.Mount.{parts_below}
 use Rattle.nfs_model.specs.Serial.Once.{memos_after, once}
 use Rattle.nfs_model.specs.Memo.{Memo}
@@ -25,9 +27,11 @@ use Rattle.nfs_model.specs.Serial.Permission.{refusal}
 use Rattle.nfs_model.specs.Serial.Read.{read}
 use Rattle.nfs_model.specs.Serial.Readdir.{readdir}
 use Rattle.nfs_model.specs.Serial.Readdirplus.{readdirplus}
+use Rattle.nfs_model.specs.Serial.Readlink.{readlink}
 use Rattle.nfs_model.specs.Serial.Remove.{remove_name}
 use Rattle.nfs_model.specs.Serial.Rename.{rename}
 use Rattle.nfs_model.specs.Serial.Rmdir.{rmdir}
+use Rattle.nfs_model.specs.Serial.Symlink.{symlink}
 use Rattle.nfs_model.specs.Serial.Write.{write}
 use Rattle.nfs_model.specs.Server.{Named, VolumeState, most_bytes}
 use Rattle.nfs_model.specs.Work as works
@@ -36,7 +40,7 @@ use Rattle.affinity.specs.Tree.{IsNode}
 use Rattle.nfs_values.specs.Call.{call_of}
 use Rattle.nfs_values.specs.Reply.{reply_of}
 use Rattle.nfs_values.specs.declared.call.Call.{Call}
-use Rattle.nfs_values.specs.declared.call.Call.TheVariants.{GetAttributes, Lookup, CheckAccess, Read, ReadDirectory, ReadDirectoryPlus, FilesystemInfo}
+use Rattle.nfs_values.specs.declared.call.Call.TheVariants.{GetAttributes, Lookup, CheckAccess, ReadLink, Read, ReadDirectory, ReadDirectoryPlus, FilesystemInfo}
 use Rattle.nfs_values.specs.declared.call.Call.TheVariants.{PathConfiguration, Commit, MountBelow}
 use Rattle.nfs_model.specs.volume.Stripes.{StripeValue}
 use Rattle.filer_state.specs.state.Calls.{VolumeCall, LieIn, handle_in}
@@ -97,6 +101,7 @@ abbrev pub is_told : Call → Bool
 is_told (GetAttributes handle) = true
 is_told (Lookup target) = true
 is_told (CheckAccess handle asked) = true
+is_told (ReadLink handle) = true
 is_told (Read handle offset count) = true
 is_told (ReadDirectory directory cookie verifier count) = true
 is_told (ReadDirectoryPlus directory cookie verifier names_count count) = true
@@ -111,26 +116,31 @@ abbrev pub fileid_in : Option Named → ℕ
 fileid_in None = 0
 fileid_in (Some named) = named.fileid
 
--- the fileid that RENAME's other handle names, the one of to's directory; no other call has a second handle
+-- the fileid that the other handle names, the one of to's directory in RENAME and of the directory in LINK; no other call has a second handle
 abbrev pub other_in : Layout → types.Call → ℕ
 other_in layout (types.Rename from from_name to to_name) = fileid_in (named_by layout to)
+other_in layout (types.Link handle directory name) = fileid_in (named_by layout directory)
 other_in layout call = 0
 
 -- What the serial server does on the volume of the handle where nothing is remembered and nothing refused, for the calls that are run. RENAME is to
--- the directory of another fileid, or of the same.
+-- the directory of another fileid, or of the same, and LINK is of a name in that of another.
 abbrev pub effect : types.Call → ℕ → Caller → Moment → VolumeState → ℕ → Effect
 effect (types.Getattr handle) other caller moment = getattr
 effect (types.Setattr handle set guard) other caller moment = setattr set guard caller moment
 effect (types.Lookup directory name) other caller moment = on_name name moment lookup
 effect (types.CheckAccess handle asked) other caller moment = access asked caller
+effect (types.Readlink handle) other caller moment = readlink
 effect (types.Read handle offset count) other caller moment = read offset count
 effect (types.Write handle offset count written) other caller moment =
     write (record { caller = caller; offset = offset; count = count; written = written; moment = moment })
 effect (types.Create directory name mode) other caller moment = on_name name moment (create mode caller)
 effect (types.Mkdir directory name set) other caller moment = on_name name moment (mkdir set caller)
+effect (types.Symlink directory name set text) other caller moment = on_name name moment (symlink set text caller)
+effect (types.Mknod directory name kind set) other caller moment = on_name name moment (mknod kind set caller)
 effect (types.Remove directory name) other caller moment = on_name name moment remove_name
 effect (types.Rmdir directory name) other caller moment = on_name name moment rmdir
 effect (types.Rename from from_name to to_name) other caller moment = λ volume fileid. rename from_name to_name moment volume fileid other
+effect (types.Link handle directory name) other caller moment = λ volume fileid. link name moment volume fileid other
 effect (types.Readdir directory cookie verifier count) other caller moment = readdir cookie verifier count
 effect (types.Readdirplus directory cookie verifier names_count count) other caller moment =
     readdirplus cookie verifier names_count count caller
@@ -146,9 +156,12 @@ abbrev pub is_done_once : types.Call → Bool
 is_done_once (types.Setattr handle set guard) = true
 is_done_once (types.Create directory name mode) = true
 is_done_once (types.Mkdir directory name set) = true
+is_done_once (types.Symlink directory name set text) = true
+is_done_once (types.Mknod directory name kind set) = true
 is_done_once (types.Remove directory name) = true
 is_done_once (types.Rmdir directory name) = true
 is_done_once (types.Rename from from_name to to_name) = true
+is_done_once (types.Link handle directory name) = true
 is_done_once call = false
 
 -- the calls that may be refused by the owner, the groups and the mode of objects, or since their caller may change nothing
@@ -159,9 +172,12 @@ is_asked (types.Read handle offset count) = true
 is_asked (types.Write handle offset count written) = true
 is_asked (types.Create directory name mode) = true
 is_asked (types.Mkdir directory name set) = true
+is_asked (types.Symlink directory name set text) = true
+is_asked (types.Mknod directory name kind set) = true
 is_asked (types.Remove directory name) = true
 is_asked (types.Rmdir directory name) = true
 is_asked (types.Rename from from_name to to_name) = true
+is_asked (types.Link handle directory name) = true
 is_asked (types.Readdir directory cookie verifier count) = true
 is_asked (types.Readdirplus directory cookie verifier names_count count) = true
 is_asked (types.Commit handle) = true
@@ -189,7 +205,7 @@ call_of_node layout node fileid caller moment call = record {
   run = λ volume. procedure call (other_in layout call) caller moment volume fileid;
 }
 
--- a call on what its handle names, the first of RENAME's, under Logical of its volume
+-- a call on what its handle names, the first of two, under Logical of its volume
 abbrev pub call_named : Layout → Named → Caller → Moment → types.Call → VolumeCall
 call_named layout named caller moment call =
     call_of_node layout (Logical named.volume) named.fileid caller moment call

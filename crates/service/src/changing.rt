@@ -18,7 +18,7 @@ ghost use Rattle.nfs_values.specs.declared.answer.Answer.TheVariants as answers;
 ghost use Rattle.parcels.specs.Filled.{logical_alike};
 ghost use Rattle.filer_state.specs.state.Running.{RunsOn, UnlessReplied};
 ghost use Rattle.filer_state.specs.state.Sets.{logical_before, logical_after};
-ghost use Rattle.service.specs.renames.NamePromises.{making_outcome};
+ghost use Rattle.service.specs.renames.NamePromises.{linking_outcome, making_outcome};
 ghost use Rattle.service.specs.renames.Promises.{renaming_outcome};
 ghost use Rattle.service.specs.Running.{allowed_named, outcome_of};
 
@@ -28,16 +28,18 @@ use crate::renames::{EntryName, rename};
 use crate::task::Run;
 use affinity::Layout;
 use filer_state::Files;
-use nfs_values::answer::{MakeResults, RenameResults};
+use nfs_values::answer::{LinkResults, MakeResults, RenameResults};
 use nfs_values::{
-    Answer, BytesToWrite, CreateMode, FileHandle, Moment, Named, Reply, SetAttributes, Status,
-    Target,
+    Answer, BytesToWrite, CreateMode, FileHandle, FileKind, Moment, Name, Named, Reply,
+    SetAttributes, Status, Target,
 };
 use parcels::LogicalHeld;
 use service_data::write_in_logical;
-use service_names::creating::{create, make_directory};
+use service_names::creating::{create, make_device, make_directory, make_symbolic_link};
+use service_names::linking::make_link;
 use service_names::refusing::{
-    creating_refusal, making_refusal, removing_refusal, renaming_refusal, setting_refusal,
+    creating_refusal, linking_refusal, making_refusal, node_refusal, removing_refusal,
+    renaming_refusal, setting_refusal,
 };
 use service_names::removing::{remove, remove_directory};
 use service_names::setting::set_attributes;
@@ -152,6 +154,66 @@ pub(crate) fn make_directory_here(
     outcome_directory_made(made)
 }
 
+/// Runs a SYMLINK.
+#[inline(never)]
+pub(crate) fn make_symbolic_link_here(
+    run: Run,
+    held: &mut LogicalHeld<Files>,
+    named: Named,
+    target: &Target,
+    set: &SetAttributes,
+    text: &Name,
+) -> Outcome
+    requires whole { HasVolume named.volume.0 logical_lens [] (logical_before held.old) }
+    ensures runs { (layout : trees.Layout) → RunsOn named.volume.0 logical_lens
+        (allowed_named layout (named_of named) (caller_of run.entry.caller.now)
+        (moment_of run.entry.moment)
+        (call_of (calls.MakeSymbolicLink target.now set.now text.now)))
+        (logical_before held.old) (outcome_of result) (logical_after held.old held.new) }
+    ensures moved { UnlessReplied (outcome_of result) (held.new ≡ held.old) }
+    ensures alike { logical_alike held.old held.new }
+{
+    let Named { volume, fileid } = named;
+    let name = target.name.as_bytes();
+    let text = text.as_bytes();
+    let caller = run.caller;
+    if let Some(status) = making_refusal(held, fileid, name, caller) {
+        return Outcome::Replied(Reply::Success(Answer::MakeSymbolicLink(Err(status))));
+    }
+    outcome_link_made(make_symbolic_link(
+        run.alloc, held, volume, fileid, name, set, text, caller, run.moment,
+    ))
+}
+
+/// Runs a MKNOD.
+#[inline(never)]
+pub(crate) fn make_device_here(
+    run: Run,
+    held: &mut LogicalHeld<Files>,
+    named: Named,
+    target: &Target,
+    kind: FileKind,
+    set: &SetAttributes,
+) -> Outcome
+    requires whole { HasVolume named.volume.0 logical_lens [] (logical_before held.old) }
+    ensures runs { (layout : trees.Layout) → RunsOn named.volume.0 logical_lens
+        (allowed_named layout (named_of named) (caller_of run.entry.caller.now)
+        (moment_of run.entry.moment) (call_of (calls.MakeDevice target.now kind set.now)))
+        (logical_before held.old) (outcome_of result) (logical_after held.old held.new) }
+    ensures moved { UnlessReplied (outcome_of result) (held.new ≡ held.old) }
+    ensures alike { logical_alike held.old held.new }
+{
+    let Named { volume, fileid } = named;
+    let name = target.name.as_bytes();
+    let caller = run.caller;
+    if let Some(status) = node_refusal(held, fileid, name, kind, caller) {
+        return Outcome::Replied(Reply::Success(Answer::MakeDevice(Err(status))));
+    }
+    outcome_device_made(make_device(
+        run.alloc, held, volume, fileid, name, kind, set, caller, run.moment,
+    ))
+}
+
 /// Runs a REMOVE.
 #[inline(never)]
 pub(crate) fn remove_here(
@@ -239,6 +301,33 @@ pub(crate) fn rename_here(
     outcome_renamed(rename(run.alloc, held, volume, from, to, run.moment))
 }
 
+/// Runs a LINK, whose first handle names this.
+#[inline(never)]
+pub(crate) fn make_link_here(
+    run: Run,
+    layout: &Layout,
+    held: &mut LogicalHeld<Files>,
+    named: Named,
+    handle: &FileHandle,
+    target: &Target,
+) -> Outcome
+    requires whole { HasVolume named.volume.0 logical_lens [] (logical_before held.old) }
+    ensures runs { RunsOn named.volume.0 logical_lens
+        (allowed_named (layout_of layout.now) (named_of named) (caller_of run.entry.caller.now)
+        (moment_of run.entry.moment) (call_of (calls.MakeLink handle.now target.now)))
+        (logical_before held.old) (outcome_of result) (logical_after held.old held.new) }
+    ensures moved { UnlessReplied (outcome_of result) (held.new ≡ held.old) }
+    ensures alike { logical_alike held.old held.new }
+{
+    let Named { volume, fileid } = named;
+    let directory = fileid_of(&target.directory, layout);
+    let name = target.name.as_bytes();
+    if let Some(status) = linking_refusal(held, fileid, directory, name, run.caller) {
+        return Outcome::Replied(Reply::Success(Answer::MakeLink(Err(status))));
+    }
+    outcome_linked(make_link(run.alloc, held, volume, fileid, directory, name, run.moment))
+}
+
 /// What a CREATE comes to.
 fn outcome_created(made: Result<Result<MakeResults, Status>, AllocError>) -> Outcome
     ensures { outcome_of result ≡ making_outcome answers.Create made }
@@ -255,6 +344,36 @@ fn outcome_directory_made(made: Result<Result<MakeResults, Status>, AllocError>)
 {
     match made {
         Ok(told) => Outcome::Replied(Reply::Success(Answer::MakeDirectory(told))),
+        Err(AllocError) => Outcome::Starved,
+    }
+}
+
+/// What a SYMLINK comes to.
+fn outcome_link_made(made: Result<Result<MakeResults, Status>, AllocError>) -> Outcome
+    ensures { outcome_of result ≡ making_outcome answers.MakeSymbolicLink made }
+{
+    match made {
+        Ok(told) => Outcome::Replied(Reply::Success(Answer::MakeSymbolicLink(told))),
+        Err(AllocError) => Outcome::Starved,
+    }
+}
+
+/// What a MKNOD comes to.
+fn outcome_device_made(made: Result<Result<MakeResults, Status>, AllocError>) -> Outcome
+    ensures { outcome_of result ≡ making_outcome answers.MakeDevice made }
+{
+    match made {
+        Ok(told) => Outcome::Replied(Reply::Success(Answer::MakeDevice(told))),
+        Err(AllocError) => Outcome::Starved,
+    }
+}
+
+/// What a LINK comes to.
+fn outcome_linked(linked: Result<Result<LinkResults, Status>, AllocError>) -> Outcome
+    ensures { outcome_of result ≡ linking_outcome linked }
+{
+    match linked {
+        Ok(told) => Outcome::Replied(Reply::Success(Answer::MakeLink(told))),
         Err(AllocError) => Outcome::Starved,
     }
 }

@@ -25,8 +25,8 @@ ghost use Rattle.service.specs.Running.{
 };
 
 use crate::changing::{
-    create_here, make_directory_here, remove_directory_here, remove_here, rename_here,
-    set_attributes_here, write_here,
+    create_here, make_device_here, make_directory_here, make_link_here, make_symbolic_link_here,
+    remove_directory_here, remove_here, rename_here, set_attributes_here, write_here,
 };
 use crate::named::fileid_of_call;
 use crate::outcome::Outcome;
@@ -35,7 +35,7 @@ use crate::task::Run;
 use crate::telling::{
     check_access_here, commit_here, filesystem_info_here, get_attributes_here, lookup_here,
     mount_below_here, path_configuration_here, read_directory_here, read_directory_plus_here,
-    read_here,
+    read_here, read_link_here,
 };
 use affinity::{CallNode, Layout};
 use filer_state::Files;
@@ -91,6 +91,7 @@ fn is_told(call: &Call) -> bool
         Call::GetAttributes { .. }
             | Call::Lookup(_)
             | Call::CheckAccess { .. }
+            | Call::ReadLink { .. }
             | Call::Read { .. }
             | Call::ReadDirectory { .. }
             | Call::ReadDirectoryPlus { .. }
@@ -117,6 +118,7 @@ fn tell(run: Run, held: &LogicalHeld<Files>, named: Named) -> Outcome
         Call::CheckAccess { handle, asked } => {
             check_access_here(run, held, named, handle, *asked)
         }
+        Call::ReadLink { handle } => read_link_here(run, held, named, handle),
         Call::Read {
             handle,
             offset,
@@ -209,9 +211,18 @@ fn change(run: Run, layout: &Layout, held: &mut LogicalHeld<Files>, named: Named
         } => write_here(run, held, named, handle, *offset, *count, bytes),
         Call::Create { target, mode } => create_here(run, held, named, target, mode),
         Call::MakeDirectory { target, set } => make_directory_here(run, held, named, target, set),
+        Call::MakeSymbolicLink { target, set, text } => {
+            make_symbolic_link_here(run, held, named, target, set, text)
+        }
+        Call::MakeDevice { target, kind, set } => {
+            make_device_here(run, held, named, target, *kind, set)
+        }
         Call::Remove(target) => remove_here(run, held, named, target),
         Call::RemoveDirectory(target) => remove_directory_here(run, held, named, target),
         Call::Rename { from, to } => rename_here(run, layout, held, named, from, to),
+        Call::MakeLink { handle, target } => {
+            make_link_here(run, layout, held, named, handle, target)
+        }
         _ => Outcome::Moved(CallNode::Volume(named.volume.0)),
     }
 }

@@ -31,8 +31,8 @@ pub(crate) fn fileid_of(handle: &FileHandle, layout: &Layout) -> Fileid
     fileid_in(named_by(handle, layout))
 }
 
-/// The fileid that the handle of a call names, the first of RENAME's; 0 where it is bad, or there
-/// is none.
+/// The fileid that the handle of a call names, the first of two; 0 where it is bad, or there is
+/// none.
 pub(crate) fn fileid_of_call(layout: &Layout, call: &Call) -> Fileid
     ensures { result.0
         ≡ fileid_in (named_by (layout_of layout.now) (handle_in (call_of call.now))) }

@@ -12,14 +12,18 @@ ghost use Rattle.filer_state.specs.state.Lenses.{logical_lens};
 ghost use Rattle.filer_state.specs.state.Promises.{HasVolume};
 ghost use Rattle.filer_state.specs.state.Running.{RunsOn};
 ghost use Rattle.filer_state.specs.state.Sets.{logical_before};
-ghost use Rattle.service.specs.renames.NamePromises.{listing_outcome, listing_plus_outcome};
+ghost use Rattle.service.specs.renames.NamePromises.{
+  listing_outcome,
+  listing_plus_outcome,
+  reading_link_outcome,
+};
 ghost use Rattle.service.specs.Running.{call_named, outcome_of};
 
 use crate::attributes::get_attributes;
 use crate::outcome::{Outcome, outcome_read};
 use crate::task::Run;
 use filer_state::Files;
-use nfs_values::answer::{ReadDirectoryPlusResults, ReadDirectoryResults};
+use nfs_values::answer::{ReadDirectoryPlusResults, ReadDirectoryResults, ReadLinkResults};
 use nfs_values::{Answer, FileHandle, Name, Named, Reply, Status, Target};
 use parcels::LogicalHeld;
 use service_data::read_in_logical;
@@ -28,6 +32,7 @@ use service_names::listing::{PageAsked, read_directory};
 use service_names::listing_plus::{PagePlusAsked, read_directory_plus};
 use service_names::looking::lookup;
 use service_names::mounting_below::mount_below;
+use service_names::reading_link::read_link;
 use service_names::refusing::{listing_refusal, lookup_refusal};
 use service_names::telling::{check_access, filesystem_info, path_configuration};
 use std::alloc::AllocError;
@@ -91,6 +96,23 @@ pub(crate) fn check_access_here(
     Outcome::Replied(Reply::Success(Answer::CheckAccess(told)))
 }
 
+/// Runs a READLINK.
+#[inline(never)]
+pub(crate) fn read_link_here(
+    run: Run,
+    held: &LogicalHeld<Files>,
+    named: Named,
+    handle: &FileHandle,
+) -> Outcome
+    requires whole { HasVolume named.volume.0 logical_lens [] (logical_before held.now) }
+    ensures { (layout : trees.Layout) → RunsOn named.volume.0 logical_lens
+        (call_named layout (named_of named) (caller_of run.entry.caller.now)
+        (moment_of run.entry.moment) (call_of (calls.ReadLink handle.now)))
+        (logical_before held.now) (outcome_of result) (logical_before held.now) }
+{
+    outcome_link_read(read_link(run.alloc, held, named.volume, named.fileid))
+}
+
 /// Runs a READ.
 #[inline(never)]
 pub(crate) fn read_here(
@@ -123,7 +145,8 @@ pub(crate) fn read_directory_here(
     requires whole { HasVolume named.volume.0 logical_lens [] (logical_before held.now) }
     ensures { (layout : trees.Layout) → RunsOn named.volume.0 logical_lens
         (call_named layout (named_of named) (caller_of run.entry.caller.now)
-        (moment_of run.entry.moment) (call_of (calls.ReadDirectory directory.now asked.cookie asked.verifier asked.count)))
+        (moment_of run.entry.moment)
+        (call_of (calls.ReadDirectory directory.now asked.cookie asked.verifier asked.count)))
         (logical_before held.now) (outcome_of result) (logical_before held.now) }
 {
     let Named { volume, fileid } = named;
@@ -233,6 +256,16 @@ pub(crate) fn mount_below_here(
     let Named { volume, fileid } = named;
     let told = mount_below(held, volume, fileid, path.as_bytes(), run.caller);
     Outcome::Replied(Reply::Success(Answer::Mount(told)))
+}
+
+/// What a READLINK comes to.
+fn outcome_link_read(read: Result<Result<ReadLinkResults, Status>, AllocError>) -> Outcome
+    ensures { outcome_of result ≡ reading_link_outcome read }
+{
+    match read {
+        Ok(told) => Outcome::Replied(Reply::Success(Answer::ReadLink(told))),
+        Err(AllocError) => Outcome::Starved,
+    }
 }
 
 /// What a READDIR comes to.

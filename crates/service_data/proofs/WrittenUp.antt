@@ -17,7 +17,7 @@ use Rattle.nfs_values.specs.Status.{status_of}
 use Rattle.nfs_values.specs.declared.answer.WriteResults.{WriteResults}
 use Rattle.nfs_values.specs.declared.status.Status.{Status}
 use Rattle.nfs_values.specs.declared.status.Status.TheVariants.{Invalid, TooBig}
-use Rattle.nfs_model.specs.volume.Inodes.{InodeKind, RegularFile, DirectoryKind, Inode, IsInodes}
+use Rattle.nfs_model.specs.volume.Inodes.{InodeKind, RegularFile, DirectoryKind, SpecialFile, Inode, IsInodes}
 use Rattle.nfs_model.specs.volume.lemmas.Inodes.{filled-within}
 use Rattle.nfs_model.specs.volume.Stripes.{Card}
 use Rattle.filer_state.specs.state.Lenses.{LogicalSet, logical_lens}
@@ -77,6 +77,7 @@ module _ (largest : ℕ) (w : Writing) where
       by true e true = refl
       by true e false = some-due e
   kind-is a (DirectoryKind parent subdirectories) = refl
+  kind-is a (SpecialFile special size) = refl
 
   due-is : (o : Option Inode) → bytes_due o largest w ≡ as_due (bytes_to_write (card_shown o) largest w.offset w.count (length w.written))
   due-is None = refl
@@ -205,6 +206,7 @@ owner-held fileid set owner card owns found = owns ∙ ap owner_on found ∙ by 
     kind : (a : Attributes) (k : InodeKind) → owner_on (Some (kind_card a k)) ≡ owner_by a k
     kind a (RegularFile size filled verifier) = refl
     kind a (DirectoryKind parent subdirectories) = refl
+    kind a (SpecialFile special size) = refl
 
     by : (o : Option Inode) → owner_on (card_shown o) ≡ owner_at o
     by None = refl

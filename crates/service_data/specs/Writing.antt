@@ -15,7 +15,7 @@ use Rattle.nfs_values.specs.declared.answer.Answer.TheVariants.{Write}
 use Rattle.nfs_values.specs.declared.answer.WriteResults.{WriteResults}
 use Rattle.nfs_values.specs.declared.status.Status.{Status}
 use Rattle.nfs_values.specs.declared.status.Status.TheVariants.{Stale, Invalid, TooBig}
-use Rattle.nfs_model.specs.volume.Inodes.{InodeKind, RegularFile, DirectoryKind, Inode}
+use Rattle.nfs_model.specs.volume.Inodes.{InodeKind, RegularFile, Inode}
 use Rattle.nfs_model.specs.volume.Stripes.{Card, OfFile, OfDirectory, StripeValue}
 use Rattle.filer_state.specs.state.Lenses.{LogicalSet, logical_lens, stripe_lens}
 use Rattle.filer_state.specs.state.Calls.{LieIn}
@@ -61,7 +61,7 @@ written_outcome v (Err e) = Starved
 -- a card without a touch of what an inode is of
 abbrev pub kind_card : Attributes → InodeKind → Card
 kind_card a (RegularFile size filled verifier) = OfFile size None (ownership_of a)
-kind_card a (DirectoryKind parent subdirectories) = OfDirectory
+kind_card a kind = OfDirectory
 
 -- the card of an inode in each stripe, but for the touch
 abbrev pub card_shown : Option Inode → Option Card

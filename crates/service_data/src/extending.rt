@@ -168,8 +168,8 @@ fn extend_inode(held: &mut LogicalHeld<Files>, fileid: Fileid, end: u64, more: u
         return;
     };
     let extended = Inode {
-        attributes: inode.attributes,
         kind: extended_kind(inode.kind, end, more),
+        ..inode
     };
     held.own.get_mut().inodes.set(fileid, extended);
 }
@@ -190,6 +190,7 @@ fn extended_kind(kind: InodeKind, end: u64, more: u32) -> InodeKind
             verifier,
         },
         InodeKind::Directory { .. } => kind,
+        InodeKind::Special { .. } => kind,
     }
 }
 

@@ -42,6 +42,7 @@ pub(crate) fn owner_of(inode: Option<Inode>) -> Option<Ownership>
     match inode.kind {
         InodeKind::RegularFile { .. } => Some(inode.attributes.ownership()),
         InodeKind::Directory { .. } => None,
+        InodeKind::Special { .. } => None,
     }
 }
 

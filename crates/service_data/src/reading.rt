@@ -127,6 +127,7 @@ fn size_of(inode: Option<Inode>) -> Result<u64, Status>
     match inode.kind {
         InodeKind::RegularFile { size, .. } => Ok(size),
         InodeKind::Directory { .. } => Err(Status::Invalid),
+        InodeKind::Special { .. } => Err(Status::Invalid),
     }
 }
 

@@ -78,10 +78,10 @@ fn put_mode(held: &mut LogicalHeld<Files>, fileid: Fileid, mode: u16)
         mode,
         ..inode.attributes
     };
-    let kind = inode.kind;
-    held.own
-        .get_mut()
-        .inodes
-        .set(fileid, Inode { attributes, kind });
+    let inode = Inode {
+        attributes,
+        ..inode
+    };
+    held.own.get_mut().inodes.set(fileid, inode);
     own_cards(held, fileid, attributes.ownership());
 }

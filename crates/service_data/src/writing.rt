@@ -255,6 +255,7 @@ fn card_of_inode(inode: Option<Inode>) -> Option<Card>
             owner: inode.attributes.ownership(),
         }),
         InodeKind::Directory { .. } => Some(Card::Directory),
+        InodeKind::Special { .. } => Some(Card::Directory),
     }
 }
 

@@ -7,6 +7,8 @@ mod Carded
 mod Dropped
 mod Gone
 mod Removed
+mod NamesGone
+mod Shows
 mod Changed
 mod Laws
 mod Named
@@ -24,3 +26,5 @@ mod Made
 mod Objects
 mod Mounted
 mod Refused
+mod Linked
+mod LinkRead

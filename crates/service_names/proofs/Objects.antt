@@ -1,9 +1,8 @@
 -- ACCESS, FSINFO and PATHCONF of a set under Logical, by the attributes of a node.
-use Rattle.std.proofs.Common.{◌≡◌, ℕ, false, [], Option, Some, None, Ok, Err, refl, sym, ap, ◌∙◌, subst, Result}
+use Rattle.std.proofs.Common.{◌≡◌, ℕ, false, [], Option, Some, None, Ok, Err, sym, ap, ◌∙◌, subst, Result}
 use Rattle.std.specs.Option.{option_map}
-use Rattle.nfs_model.specs.Server as servers
 use Rattle.nfs_model.specs.Types as model
-use Rattle.nfs_model.specs.Types.{Caller, Kind, Moment, Shown, Answer, Success, AccessDone, FsinfoDone, PathconfDone, Failed}
+use Rattle.nfs_model.specs.Types.{Caller, Moment, Shown, Answer, Success, AccessDone, FsinfoDone, PathconfDone, Failed}
 use Rattle.nfs_model.specs.Serial.Access.{access_given}
 use Rattle.nfs_model.specs.Tree.{Logical}
 use Rattle.nfs_values.specs.Answer.{answer_of}
@@ -23,12 +22,12 @@ use Rattle.filer_state.specs.state.Calls.{ServesOn}
 use Rattle.std.specs.FinMap.{get}
 use Rattle.nfs_model.specs.Serial.Access.{bits_given}
 use Rattle.nfs_model.specs.Serial.Rights as rights
-use Rattle.nfs_model.specs.Serial.Rights.{rights_of, protection_shown}
-use Rattle.nfs_model.specs.volume.Inodes.{InodeKind, RegularFile, DirectoryKind, Inode}
+use Rattle.nfs_model.specs.Serial.Rights.{rights_of}
+use Rattle.nfs_model.specs.volume.Inodes.{Inode}
 use Rattle.rights.specs.Protection.{protection_of as protection_value}
 use Rattle.rights.specs.declared.protection.Protection.{Protection}
-use Rattle.filer_state.specs.state.Changes.{shown_inode, shown_kind}
-use Rattle.filer_state.specs.state.Protected.{kind_shown, protection_of}
+use Rattle.filer_state.specs.state.Changes.{shown_inode}
+use Rattle.filer_state.specs.state.Protected.{protection_of}
 use Rattle.filer_state.specs.state.Tree.{file_touch}
 use Rattle.filer_state.specs.changes.NameAnswers.{object_in, object_told_by, access_answer, fsinfo_answer, pathconf_answer}
 use Rattle.filer_state.specs.changes.NameLaws.{access_call, fsinfo_call, pathconf_call}
@@ -47,16 +46,6 @@ module _ (v fileid : ℕ) where
     pub none-there : get set.own.inodes.inodes fileid ≡ None → object_in v fileid set ≡ None
     none-there none = ap (option_map (λ (i : Inode). shown_inode v fileid i (file_touch set.stripes fileid))) none
 
-  -- attributes show who may do what as the inode tells it
-  shown-protected : (a : servers.Attributes) (kind : InodeKind) (touch : Option Moment)
-      → protection_shown (shown_kind v fileid a kind touch) ≡ rights.protected (kind_shown kind) a
-  shown-protected a (RegularFile size filled verifier) touch = refl
-  shown-protected a (DirectoryKind parent subdirectories) touch = refl
-
-  shown-of-kind : (a : servers.Attributes) (kind : InodeKind) (touch : Option Moment) → (shown_kind v fileid a kind touch).kind ≡ kind_shown kind
-  shown-of-kind a (RegularFile size filled verifier) touch = refl
-  shown-of-kind a (DirectoryKind parent subdirectories) touch = refl
-
   pub access-shown : (caller : Caller) (asked : ℕ) (inode : Inode) (touch : Option Moment) (object : Attributes)
       → shown_of object ≡ shown_inode v fileid inode touch → (p : Protection) → protection_value p ≡ protection_of inode
       → (given : ℕ) → given ≡ bits_given caller asked (protection_value p).kind (rights_of caller.credential (protection_value p))
@@ -64,10 +53,6 @@ module _ (v fileid : ℕ) where
   access-shown caller asked inode touch object shows p is given told =
       told
       ∙ ap (λ (q : rights.Protection). bits_given caller asked q.kind (rights_of caller.credential q)) is
-      ∙ ap (λ (k : Kind). bits_given caller asked k (rights_of caller.credential (protection_of inode)))
-      (sym (shown-of-kind inode.attributes inode.kind touch))
-      ∙ ap (λ (q : rights.Protection). bits_given caller asked (shown_inode v fileid inode touch).kind (rights_of caller.credential q))
-      (sym (shown-protected inode.attributes inode.kind touch))
       ∙ ap (λ (s : Shown). access_given caller asked s) (sym shows)
 
 -- ---- what results tell

@@ -6,7 +6,7 @@ use Rattle.std.specs.Prelude.{slice_get, slice_set, slice_index_or, OnOk, OnErr,
 use Rattle.std.specs.FinMap.{FinMap, get, insert, remove}
 use Rattle.std.specs.Ordering.{nat_cmp}
 use Rattle.nfs_model.specs.Types.{Ownership}
-use Rattle.nfs_model.specs.volume.Inodes.{InodeKind, RegularFile, DirectoryKind}
+use Rattle.nfs_model.specs.volume.Inodes.{InodeKind, RegularFile, DirectoryKind, SpecialFile}
 use Rattle.nfs_model.specs.volume.Stripes.{StripeValue, OfFile, OfDirectory, touch_of, card_dropped}
 use Rattle.nfs_model.specs.volume.lemmas.Numbered.{same-answers, get-insert_at, get-remove_at}
 use Rattle.filer_state.specs.changes.NodesMade.{card_made}
@@ -29,6 +29,7 @@ module _ (f : ℕ) (owner : Ownership) (s : StripeValue) where
   made-else (RegularFile size filled verifier) =
       ap (λ cards. record s { cards = cards }) (remove-put s.cards f (OfFile size (touch_of (get s.cards f)) owner))
   made-else (DirectoryKind parent subdirectories) = ap (λ cards. record s { cards = cards }) (remove-put s.cards f OfDirectory)
+  made-else (SpecialFile special size) = ap (λ cards. record s { cards = cards }) (remove-put s.cards f OfDirectory)
 
   -- by what came of it
   pub put-else : {A E : Type 0} (k : InodeKind) (new : StripeValue) (r : Result A E) → OnOk r (new ≡ card_made owner k f s) → OnErr r (new ≡ s)

@@ -6,7 +6,7 @@ use Rattle.std.specs.FinMap.{get}
 use Rattle.nfs_model.specs.Types.{Moment, Listed, Invalid}
 use Rattle.nfs_model.specs.Names.{is_dots}
 use Rattle.nfs_model.specs.volume.Directories.{DirectoryValue, fileid_found}
-use Rattle.nfs_model.specs.volume.Inodes.{InodeKind, RegularFile, DirectoryKind, Inode}
+use Rattle.nfs_model.specs.volume.Inodes.{InodeKind, RegularFile, DirectoryKind, Inode, SpecialFile}
 use Rattle.nfs_model.specs.volume.lemmas.Numbered.{get-remove_at}
 use Rattle.filer_state.specs.state.Lenses.{LogicalSet}
 use Rattle.filer_state.specs.state.Changes.{LogicalAnswer}
@@ -14,34 +14,42 @@ use Rattle.filer_state.specs.changes.NameAnswers.{entries_of}
 use Rattle.filer_state.specs.changes.NodesSized.{kind_sized}
 use Rattle.filer_state.specs.changes.NodesDropped.{without_subdirectories, directories_left}
 use Rattle.filer_state.specs.changes.Named.{fails, HeldNode, node_at, node_under}
-use Rattle.filer_state.specs.changes.Dropping.{file_gone, held_gone, remove_by, remove_kind, held_remove, if_empty, rmdir_kind}
+use Rattle.filer_state.specs.changes.Dropping.{name_gone, held_gone, remove_by, remove_kind, held_remove, if_empty, rmdir_kind}
 use Rattle.service_names.specs.Naming.{naming_in}
 use Rattle.service_names.specs.Shown.{HasFewLinks}
+use Rattle.filer_state.specs.state.Names.{parent_in}
 
 -- ---- links
 
 pub few-left : (fewer : ℕ) (kind : InodeKind) → HasFewLinks kind → HasFewLinks (without_subdirectories fewer kind)
 few-left fewer (RegularFile size filled verifier) few = few
+few-left fewer (SpecialFile special size) few = few
 few-left fewer (DirectoryKind parent subs) few = omega (arith, few)
 
 pub few-sized : (size fewer : ℕ) (kind : InodeKind) → HasFewLinks kind → HasFewLinks (kind_sized size fewer kind)
 few-sized size fewer (RegularFile old filled verifier) few = few
+few-sized size fewer (SpecialFile special old) few = few
 few-sized size fewer (DirectoryKind parent subs) few = few
 
 -- ---- a name in a directory
 
 module _ (v directory : ℕ) (inode : Inode) (name : List ℕ) (moment : Moment) (s : LogicalSet) (child : HeldNode)
     (under : node_under (naming_in v directory inode name moment s) ≡ Some child) where
-  -- a file under the name loses it
-  pub removed-file : (done : LogicalAnswer) (size filled : ℕ) (verifier : Option (List ℕ)) → done ≡ held_remove (naming_in v directory inode name moment s)
-      → is_dots name ≡ false → child.inode.kind ≡ RegularFile size filled verifier
-      → done ≡ file_gone (naming_in v directory inode name moment s) child
-  removed-file done size filled verifier told good kind =
+  -- what isn't a directory loses the name
+  pub removed-name : (done : LogicalAnswer) → done ≡ held_remove (naming_in v directory inode name moment s)
+      → is_dots name ≡ false → parent_in child.inode.kind ≡ None → done ≡ name_gone (naming_in v directory inode name moment s) child
+  removed-name done told good none =
       told
       ∙ ap (λ (b : Bool). if b then fails Invalid s else remove_by (naming_in v directory inode name moment s)
       (node_under (naming_in v directory inode name moment s))) good
       ∙ ap (remove_by (naming_in v directory inode name moment s)) under
-      ∙ ap (remove_kind (naming_in v directory inode name moment s) child) kind
+      ∙ by child.inode.kind none
+    where
+      by : (k : InodeKind) → parent_in k ≡ None
+          → remove_kind (naming_in v directory inode name moment s) child k ≡ name_gone (naming_in v directory inode name moment s) child
+      by (RegularFile size filled verifier) none = refl
+      by (DirectoryKind parent subs) none = absurd cc
+      by (SpecialFile special size) none = refl
 
   -- a directory without entries does
   pub removed-directory-kind : (parent subs : ℕ) → child.inode.kind ≡ DirectoryKind parent subs → (entries_of s.own child.fileid).list ≡ []

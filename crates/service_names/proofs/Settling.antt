@@ -1,11 +1,11 @@
 -- Touches of a node taken, and its cards given an owner, in the places of stripes.
-use Rattle.std.proofs.Common.{◌≡◌, ℕ, ◌<◌, ◌≤◌, List, map, Option, Some, None, refl, sym, ap, ◌∙◌, arith, ⊎_elim}
-use Rattle.std.specs.Prelude.{length, slice_get, is_some}
+use Rattle.std.proofs.Common.{◌≡◌, ℕ, ◌<◌, List, Option, Some, None, refl, sym, ap, ◌∙◌, arith}
+use Rattle.std.specs.Prelude.{slice_get, is_some}
 use Rattle.std.specs.FinMap as maps
 use Rattle.std.specs.Ordering.{nat_cmp}
 use Rattle.nfs_model.specs.Types.{Ownership}
-use Rattle.parcels.specs.Filled.{is_filled, AreFilledAlike}
-use Rattle.nfs_model.specs.volume.Stripes.{StripeValue, Card, card_owned, file_card_owned, touch_taken}
+use Rattle.parcels.specs.Filled.{AreFilledAlike}
+use Rattle.nfs_model.specs.volume.Stripes.{Card, card_owned, file_card_owned}
 use Rattle.nfs_model.specs.volume.Maps.{changed_value}
 use Rattle.filer_state.specs.state.Contents.{each}
 use Rattle.filer_state.specs.state.Changes.{stripe_settled, stripes_settled}

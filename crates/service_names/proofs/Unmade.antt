@@ -21,12 +21,12 @@ use Rattle.filer_state.specs.state.Parcels.{no_stripe}
 use Rattle.filer_state.specs.state.Tree.{stripe_at}
 use Rattle.filer_state.specs.state.Sets.{FilerLogical, FilerStripe, stripe_value, placed, in_one, logical_before, logical_after}
 use Rattle.filer_state.specs.laws.lemmas.Each.{each-same, each-map, each-index, get-there}
-use Rattle.filer_state.specs.changes.NodesMade.{card_made, directories_made, node_made}
+use Rattle.filer_state.specs.changes.NodesMade.{card_made, directories_made, texts_made, node_made}
 use Rattle.filer_state.specs.changes.Making.{making_of}
 use Rattle.service_names.specs.declared.parent.Parent.{Parent}
 use Rattle.service_names.specs.Cards.{InFirst, place_dropped, DiffersByCard, HasCard, IsDropped}
-use Rattle.service_names.specs.Making.{MayMake, naming_in_parent, inode_dated, without_directory, node_unmade}
-use Rattle.service_names.specs.Changing.{with_inodes, with_directories}
+use Rattle.service_names.specs.Making.{MayMake, naming_in_parent, inode_dated, without_parts, node_unmade}
+use Rattle.service_names.specs.Changing.{with_inodes, with_directories, with_texts}
 use Rattle.service_names.proofs.Dropped.{first-alike}
 use Rattle.service_names.proofs.Putting.{same-places, there}
 use Rattle.service_names.proofs.Tying.{made-get}
@@ -85,7 +85,7 @@ module _ {P : Type 0} where
 -- ---- a node
 
 module _ {P : Type 0} (parent : Parent) (name : List ℕ) (old : FilerLogical P) (may : MayMake (naming_in_parent parent name (logical_before old)))
-    (made : Inode)
+    (made : Inode) (text : Option (List ℕ))
     (f : ℕ) (is : f ≡ old.own.inodes.next) where
   abbrev n : ℕ
   n = old.own.stripes
@@ -127,7 +127,7 @@ module _ {P : Type 0} (parent : Parent) (name : List ℕ) (old : FilerLogical P)
         (subst (λ xs. InFirst (DiffersByCard f) one.own.stripes xs two.stripes.at) (ap (λ s. s.at) same) others)
 
     -- where memory ran out
-    module _ (failed : without_directory f two.own ≡ without_directory f one.own) where
+    module _ (failed : without_parts f two.own ≡ without_parts f one.own) where
       pub was-last : two.own.inodes.next ≡ f + 1
       was-last =
           ap (λ (l : LogicalValue). l.inodes.next) failed ∙ (ap (λ (l : LogicalValue). l.inodes.next) created ∙ ap (λ (q : ℕ). q + 1) (sym is))
@@ -152,6 +152,7 @@ module _ {P : Type 0} (parent : Parent) (name : List ℕ) (old : FilerLogical P)
               ∙ (λ j. record old.own {
                 inodes = unmade-created old.own.inodes made may.inodes j;
                 directories = remove-absent old.own.directories f (ap (λ (q : ℕ). get old.own.directories q) is ∙ may.no_directory) j;
+                texts = remove-absent old.own.texts f (ap (λ (q : ℕ). get old.own.texts q) is ∙ may.no_text) j;
               })
 
           count : two.own.stripes ≡ n
@@ -167,13 +168,15 @@ module _ {P : Type 0} (parent : Parent) (name : List ℕ) (old : FilerLogical P)
       places-alike = subst (λ s. AreFilledAlike old.stripes.at s.at) (sym stripes) (cards-alike f n old.stripes.at two.stripes.at differs)
 
       pub all-made : (title : List ℕ) → title ≡ name
-          → two.own ≡ with_directories (changed_at (added title f) d (directories_made made.kind f one.own.directories)) one.own
+          → (kept : Option (List ℕ)) → kept ≡ text
+          → two.own ≡ with_directories (changed_at (added title f) d (directories_made made.kind f one.own.directories))
+          (with_texts (texts_made kept f one.own.texts) one.own)
           → (owner : Ownership) → owner ≡ ownership_of made.attributes
           → InFirst (HasCard owner made.kind f) one.own.stripes one.stripes.at two.stripes.at
           → three.own ≡ with_inodes (inode_set d (inode_dated (naming_in_parent parent name (logical_before old)).inode made.kind
           (naming_in_parent parent name (logical_before old)).moment) two.own.inodes) two.own
-          → logical_after old three ≡ node_made (making_of (naming_in_parent parent name (logical_before old)) made) (logical_before old)
-      all-made title titled tied owner owns cards set = λ j. record { own = own j; stripes = placed_now j }
+          → logical_after old three ≡ node_made (making_of (naming_in_parent parent name (logical_before old)) made text) (logical_before old)
+      all-made title titled kept texted tied owner owns cards set = λ j. record { own = own j; stripes = placed_now j }
         where
           dated : Inode
           dated = inode_dated (naming_in_parent parent name (logical_before old)).inode made.kind (naming_in_parent parent name (logical_before old)).moment
@@ -186,16 +189,18 @@ module _ {P : Type 0} (parent : Parent) (name : List ℕ) (old : FilerLogical P)
           entered =
               ap (λ t. changed_at (added t f) d (directories_made made.kind f old.own.directories)) titled
               ∙ ap (λ o. changed_value (added name f) o d (directories_made made.kind f old.own.directories))
-              (made-get made.kind f old.own d apart-of ∙ may.entered)
+              (made-get made.kind text f old.own d apart-of ∙ may.entered)
 
-          own : three.own ≡ (node_made (making_of (naming_in_parent parent name (logical_before old)) made) (logical_before old)).own
+          own : three.own ≡ (node_made (making_of (naming_in_parent parent name (logical_before old)) made text) (logical_before old)).own
           own =
               set ∙ ap (λ (l : LogicalValue). with_inodes (inode_set d dated l.inodes) l) tied
               ∙ ap (λ (l : LogicalValue). with_inodes (inode_set d dated l.inodes)
-              (with_directories (changed_at (added title f) d (directories_made made.kind f l.directories)) l)) created
-              ∙ ap (λ directories. with_inodes (inode_set d dated (inode_created made old.own.inodes)) (with_directories directories old.own)) entered
+              (with_directories (changed_at (added title f) d (directories_made made.kind f l.directories)) (with_texts (texts_made kept f l.texts) l))) created
+              ∙ (λ j. with_inodes (inode_set d dated (inode_created made old.own.inodes)) (with_directories (entered j)
+              (with_texts (texts_made (texted j) f old.own.texts) old.own)))
               ∙ ap (λ (q : ℕ). with_inodes (inode_set d dated (inode_created made old.own.inodes))
-              (with_directories (changed_value (added name q) (Some entries) d (directories_made made.kind q old.own.directories)) old.own)) is
+              (with_directories (changed_value (added name q) (Some entries) d (directories_made made.kind q old.own.directories))
+              (with_texts (texts_made text q old.own.texts) old.own))) is
 
           has : InFirst (HasCard owner made.kind f) n old.stripes.at two.stripes.at
           has = subst (λ (m : ℕ). InFirst (HasCard owner made.kind f) m old.stripes.at two.stripes.at) (ap (λ (l : LogicalValue). l.stripes) created)

@@ -1,11 +1,11 @@
 -- What calls that change nodes take, and leave.
-use Rattle.std.specs.Prelude.{ℕ, ◌*◌, ◌<◌, ◌≤◌, List, [], ◌∷◌, IsSome}
+use Rattle.std.specs.Prelude.{ℕ, ◌*◌, ◌<◌, ◌≤◌, ◌==◌, List, [], ◌∷◌, length, Option, Some, None, IsSome, if◌then◌else◌}
 use Rattle.std.specs.FinMap.{get}
 use Rattle.nfs_model.specs.Parts.{most_ranges}
 use Rattle.nfs_model.specs.Server.{Attributes}
 use Rattle.nfs_model.specs.Types.{Moment}
 use Rattle.nfs_model.specs.volume.Inodes.{Inode, InodeKind, InodesValue, inode_set}
-use Rattle.filer_state.specs.state.Names.{DirectoryMap}
+use Rattle.filer_state.specs.state.Names.{DirectoryMap, TextMap}
 use Rattle.nfs_model.specs.volume.Logical.{LogicalValue}
 use Rattle.nfs_model.specs.volume.Ranges.{dead_marked, most_range_blocks}
 use Rattle.filer_state.specs.state.Lenses.{LogicalSet}
@@ -41,7 +41,7 @@ sizing fileid inode attributes size = record { fileid = fileid; inode = inode; a
 
 -- an inode with other attributes
 abbrev pub with_value : Inode → Attributes → Inode
-with_value inode attributes = record { attributes = attributes; kind = inode.kind }
+with_value inode attributes = record inode { attributes = attributes }
 
 -- with other inodes
 abbrev pub with_inodes : InodesValue → LogicalValue → LogicalValue
@@ -53,7 +53,15 @@ with_directories directories l = record l { directories = directories }
 
 -- the inode of a directory after a node of a kind under it is dropped at a moment
 abbrev pub inode_left : Inode → InodeKind → Moment → Inode
-inode_left inode kind moment = record {
+inode_left inode kind moment = record inode {
   attributes = record inode.attributes { mtime = moment; ctime = moment };
   kind = without_subdirectories (directories_in kind) inode.kind;
 }
+
+-- with other texts
+abbrev pub with_texts : TextMap → LogicalValue → LogicalValue
+with_texts texts l = record l { texts = texts }
+
+-- a text, if it isn't empty
+abbrev pub text_given : List ℕ → Option (List ℕ)
+text_given text = if length text == 0 then None else Some text

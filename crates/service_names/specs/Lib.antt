@@ -5,11 +5,13 @@ pub mod Changing
 pub mod Naming
 pub mod Cards
 pub mod Making
+pub mod Linking
 pub mod Refusing
 pub mod lemmas
 pub use Rattle.filer_state.specs.changes.Named as NamedChanges
 pub use Rattle.filer_state.specs.changes.Dropping as DroppingChanges
 pub use Rattle.filer_state.specs.changes.Renaming as RenamingChanges
+pub use Rattle.filer_state.specs.changes.Linking as LinkingChanges
 pub use Rattle.filer_state.specs.changes.Laws as ChangeLaws
 pub use Rattle.filer_state.specs.changes.AttributeLaws
 pub use Rattle.filer_state.specs.changes.GettingLemmas

@@ -7,7 +7,9 @@ use Rattle.nfs_values.specs.Answer.{answer_of}
 use Rattle.nfs_values.specs.declared.answer.Answer.{Answer}
 use Rattle.nfs_values.specs.declared.answer.Answer.TheVariants as answers
 use Rattle.nfs_values.specs.declared.answer.Answer.TheVariants.{Lookup, CheckAccess, ReadDirectory, ReadDirectoryPlus}
-use Rattle.nfs_values.specs.declared.answer.Answer.TheVariants.{FilesystemInfo, PathConfiguration, Commit, Mount}
+use Rattle.nfs_values.specs.declared.answer.Answer.TheVariants.{ReadLink, FilesystemInfo, PathConfiguration, Commit, Mount}
+use Rattle.nfs_values.specs.declared.answer.ReadLinkResults.{ReadLinkResults}
+use Rattle.nfs_values.specs.declared.answer.LinkResults.{LinkResults}
 use Rattle.nfs_values.specs.declared.answer.MakeResults.{MakeResults}
 use Rattle.nfs_values.specs.declared.attributes.Change.{Change}
 use Rattle.nfs_values.specs.declared.answer.LookupResults.{LookupResults}
@@ -30,8 +32,8 @@ use Rattle.filer_state.specs.state.Promises.{RightOnVolume}
 use Rattle.filer_state.specs.state.Jobs.{Replied}
 use Rattle.filer_state.specs.state.Calls.{ServesOn}
 use Rattle.filer_state.specs.changes.AttributeLaws.{setattr_call}
-use Rattle.filer_state.specs.changes.NameLaws.{lookup_call, readdir_call, readdirplus_call, access_call, fsinfo_call, pathconf_call, commit_call, mount_call}
-use Rattle.filer_state.specs.changes.Laws.{create_call, mkdir_call, remove_call, rmdir_call}
+use Rattle.filer_state.specs.changes.NameLaws.{lookup_call, readlink_call, readdir_call, readdirplus_call, access_call, fsinfo_call, pathconf_call, commit_call, mount_call}
+use Rattle.filer_state.specs.changes.Laws.{create_call, mkdir_call, symlink_call, mknod_call, remove_call, rmdir_call, link_call}
 
 -- An entry of LOOKUP of a name in the directory of a fileid under Logical, with this result, is right: by whatever handle and at
 -- whatever moment, and whatever the rest of the volume is (RFC 1813 section 3.3.3).
@@ -69,6 +71,16 @@ abbrev pub MountsBelow : ℕ → ℕ → List ℕ → Caller → LogicalSet → 
 MountsBelow v fileid path caller set result = (root : List ℕ)
     → RightOnVolume v logical_lens (ServesOn (mount_call root (Logical v) fileid path caller) false) [] [] set
     (Replied (Success (answer_of (Mount result)))) set
+
+-- what a READLINK comes to: a reply, or memory ran out
+abbrev pub reading_link_outcome : Result (Result ReadLinkResults Status) AllocError → Outcome
+reading_link_outcome (Ok told) = works.Replied (Success (answer_of (ReadLink told)))
+reading_link_outcome (Err e) = Starved
+
+-- A run of READLINK of a fileid, likewise (RFC 1813 section 3.3.5).
+abbrev pub ReadsLink : ℕ → ℕ → LogicalSet → Result (Result ReadLinkResults Status) AllocError → Type 0
+ReadsLink v fileid set result = (handle : List ℕ)
+    → RunsOn v logical_lens (readlink_call handle (Logical v) fileid) set (reading_link_outcome result) set
 
 -- what a READDIR comes to: a reply, or memory ran out
 abbrev pub listing_outcome : Result (Result ReadDirectoryResults Status) AllocError → Outcome
@@ -116,6 +128,28 @@ abbrev pub MakesDirectory : ℕ → ℕ → List ℕ → types.SetAttributes →
     → LogicalSet → Type 0
 MakesDirectory v fileid name set caller moment old result new = (handle : List ℕ)
     → RunsOn v logical_lens (mkdir_call handle (Logical v) fileid name set caller moment) old (making_outcome answers.MakeDirectory result) new
+
+-- A run of SYMLINK, likewise (RFC 1813 section 3.3.10).
+abbrev pub MakesSymbolicLink : ℕ → ℕ → List ℕ → types.SetAttributes → List ℕ → Caller → Moment → LogicalSet
+    → Result (Result MakeResults Status) AllocError → LogicalSet → Type 0
+MakesSymbolicLink v fileid name set text caller moment old result new = (handle : List ℕ)
+    → RunsOn v logical_lens (symlink_call handle (Logical v) fileid name set text caller moment) old (making_outcome answers.MakeSymbolicLink result) new
+
+-- A run of MKNOD, likewise (RFC 1813 section 3.3.11).
+abbrev pub MakesNode : ℕ → ℕ → List ℕ → types.Kind → types.SetAttributes → Caller → Moment → LogicalSet
+    → Result (Result MakeResults Status) AllocError → LogicalSet → Type 0
+MakesNode v fileid name kind set caller moment old result new = (handle : List ℕ)
+    → RunsOn v logical_lens (mknod_call handle (Logical v) fileid name kind set caller moment) old (making_outcome answers.MakeDevice result) new
+
+-- what a LINK comes to: a reply, or memory ran out
+abbrev pub linking_outcome : Result (Result LinkResults Status) AllocError → Outcome
+linking_outcome (Ok told) = works.Replied (Success (answer_of (answers.MakeLink told)))
+linking_outcome (Err e) = Starved
+
+-- A run of LINK of a node under a name of a directory, likewise (RFC 1813 section 3.3.15).
+abbrev pub Links : ℕ → ℕ → ℕ → List ℕ → Moment → LogicalSet → Result (Result LinkResults Status) AllocError → LogicalSet → Type 0
+Links v fileid directory_id name moment old result new = (handle directory : List ℕ)
+    → RunsOn v logical_lens (link_call handle directory (Logical v) fileid directory_id name moment) old (linking_outcome result) new
 
 -- An entry of REMOVE, likewise (RFC 1813 section 3.3.12).
 abbrev pub Removes : ℕ → ℕ → List ℕ → Moment → LogicalSet → Result Change Status → LogicalSet → Type 0

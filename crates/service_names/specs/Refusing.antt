@@ -1,5 +1,5 @@
 -- What is known of a refusal before a name is looked up.
-use Rattle.std.specs.Prelude.{ℕ, Bool, false, not, ◌&&◌, ◌||◌, ◌==◌, Option, Some, None, is_some, Result, Ok, Err}
+use Rattle.std.specs.Prelude.{Bool, false, not, ◌&&◌, ◌||◌, ◌==◌, Option, None, is_some, Result, Ok, Err, if◌then◌else◌}
 use Rattle.std.specs.Option.{option_map}
 use Rattle.nfs_model.specs.Types as model
 use Rattle.nfs_model.specs.Types.{Credential, CreateMode, Unchecked, Guarded, Exclusive}
@@ -28,3 +28,7 @@ is_settled who stays source target = is_free who source && is_free who target &&
 abbrev pub asked_by : Result Protection (Option Status) → (rights.Protection → Option model.Status) → Option model.Status
 asked_by (Ok directory) ask = ask (protection_of directory)
 asked_by (Err told) ask = option_map status_of told
+
+-- nothing is asked of two names of one node
+abbrev pub unless_one : Bool → Option model.Status → Option model.Status
+unless_one is_one asked = if is_one then None else asked

@@ -2,3 +2,4 @@
 pub mod Whole
 pub mod Nodes
 pub mod May
+pub mod Linkable

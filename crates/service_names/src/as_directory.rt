@@ -14,7 +14,7 @@ use nfs_values::{Fileid, Status};
 use parcels::LogicalHeld;
 
 /// The inode of a directory, and its parent: STALE where there is no node of the fileid, NOTDIR
-/// where it is a file.
+/// where it is no directory.
 pub(crate) fn directory_at(
     held: &LogicalHeld<Files>,
     fileid: Fileid,
@@ -30,7 +30,8 @@ pub(crate) fn directory_at(
         None => return Err(Status::Stale),
     };
     match inode.kind {
-        InodeKind::RegularFile { .. } => Err(Status::NotDirectory),
         InodeKind::Directory { parent, .. } => Ok((inode, parent)),
+        InodeKind::RegularFile { .. } => Err(Status::NotDirectory),
+        InodeKind::Special { .. } => Err(Status::NotDirectory),
     }
 }

@@ -55,6 +55,7 @@ pub(crate) fn over_fault(who: &Credential, mode: &CreateMode, object: &Protectio
 {
     match object.kind {
         FileKind::Directory => None,
+        FileKind::Special(_) => None,
         FileKind::Regular => size_fault(who, mode, object),
     }
 }
@@ -97,6 +98,7 @@ pub(crate) fn moved_fault(who: &Credential, stays: bool, object: &Protection) ->
 {
     match object.kind {
         FileKind::Regular => None,
+        FileKind::Special(_) => None,
         FileKind::Directory => needs(stays || rights_of(who, object).writes),
     }
 }

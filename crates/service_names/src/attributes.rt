@@ -26,8 +26,8 @@ use nfs_values::{Fileid, Moment, NANOSECONDS_OF_A_SECOND, SetAttributes, SetTime
 use parcels::LogicalHeld;
 
 /// What hinders that the node of a fileid, whose inode this is, gets attributes: NOT_SYNC where a
-/// guard is another ctime; INVAL for a time of 1,000,000,000 nanoseconds or more, or the size of a
-/// directory; FBIG for more than the largest size.
+/// guard is another ctime; INVAL for a time of 1,000,000,000 nanoseconds or more, or a size of
+/// what is no file; FBIG for more than the largest size.
 pub(crate) fn set_fault(
     held: &LogicalHeld<Files>,
     fileid: Fileid,
@@ -83,13 +83,14 @@ fn is_bad_time(time: SetTime) -> bool
     }
 }
 
-/// Whether this is a size for a directory.
+/// Whether this is a size for what is no file.
 fn is_directory_sized(kind: InodeKind, size: Option<u64>) -> bool
     ensures { result ≡ is_directory_sized (kind_value kind) size }
 {
     match kind {
         InodeKind::RegularFile { .. } => false,
         InodeKind::Directory { .. } => size.is_some(),
+        InodeKind::Special { .. } => size.is_some(),
     }
 }
 
@@ -103,8 +104,8 @@ pub(crate) fn is_past(size: Option<u64>, largest: u64) -> bool
     }
 }
 
-/// The attributes of a node as they hold, where this is its file's latest touch; a directory has
-/// none.
+/// The attributes of a node as they hold, where this is its file's latest touch; nothing else
+/// has one.
 pub fn attributes_now(inode: Inode, touch: Option<Moment>) -> StoredAttributes
     ensures { attributes_value result ≡ attributes_now (option_map moment_of touch)
         (attributes_value inode.attributes) (kind_value inode.kind) }
@@ -112,6 +113,7 @@ pub fn attributes_now(inode: Inode, touch: Option<Moment>) -> StoredAttributes
     match inode.kind {
         InodeKind::RegularFile { .. } => inode.attributes.with_touch(touch),
         InodeKind::Directory { .. } => inode.attributes,
+        InodeKind::Special { .. } => inode.attributes,
     }
 }
 

@@ -90,6 +90,7 @@ fn put_in(
             stripe.set_card(fileid, CardKind::File { size, owner })
         }
         InodeKind::Directory { .. } => stripe.set_card(fileid, CardKind::Directory),
+        InodeKind::Special { .. } => stripe.set_card(fileid, CardKind::Directory),
     }
 }
 

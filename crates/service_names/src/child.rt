@@ -28,7 +28,7 @@ use nfs_values::{Change, Fileid, Status, VolumeNumber};
 use parcels::LogicalHeld;
 
 /// The inode of a directory on whose name a call is: STALE where there is no node of the fileid,
-/// NOTDIR where it is a file, or what is wrong with the name.
+/// NOTDIR where it is no directory, or what is wrong with the name.
 pub(crate) fn directory_named(
     held: &LogicalHeld<Files>,
     directory: Fileid,
@@ -48,6 +48,7 @@ pub(crate) fn directory_named(
     };
     match inode.kind {
         InodeKind::RegularFile { .. } => Err(Status::NotDirectory),
+        InodeKind::Special { .. } => Err(Status::NotDirectory),
         InodeKind::Directory { .. } => match name_fault(name) {
             Some(fault) => Err(fault),
             None => Ok(inode),

@@ -24,8 +24,8 @@ use parcels::LogicalHeld;
 use rights::{asked_first, may_read, may_write, needs};
 
 /// COMMIT (RFC 1813 section 3.3.21), on the parcels of a volume's names and attributes: STALE, or
-/// INVAL for a directory; else the attributes of a file and the verifier of writes, all of which
-/// are stable (our profile). It takes no memory.
+/// INVAL for what is no file; else the attributes of a file and the verifier of writes, all of
+/// which are stable (our profile). It takes no memory.
 pub fn commit(
     held: &LogicalHeld<Files>,
     volume: VolumeNumber,
@@ -40,6 +40,7 @@ pub fn commit(
     };
     match inode.kind {
         InodeKind::Directory { .. } => Err(Status::Invalid),
+        InodeKind::Special { .. } => Err(Status::Invalid),
         InodeKind::RegularFile { .. } => {
             let after = shown_now(held, volume, fileid, inode);
             let before = prior(after);
@@ -79,6 +80,7 @@ fn committing_fault(held: &LogicalHeld<Files>, fileid: Fileid, who: &Credential)
     let inode = held.own.get().inodes.get(fileid)?;
     match inode.kind {
         InodeKind::Directory { .. } => None,
+        InodeKind::Special { .. } => None,
         InodeKind::RegularFile { .. } => {
             let file = protection_of(&inode);
             let may = may_read(who, &file) || may_write(who, &file);

@@ -40,7 +40,8 @@ pub(crate) fn size_stripes(
     ensures own { held.new.own ≡ with_dead
         (all_freed fileid.0 size (logical_before held.old).stripes) held.old.own }
     ensures sized { (logical_after held.old held.new).stripes
-        ≡ map (stripe_shaped fileid.0 size (option_map ownership_of owner)) (logical_before held.old).stripes }
+        ≡ map (stripe_shaped fileid.0 size (option_map ownership_of owner))
+        (logical_before held.old).stripes }
     ensures alike { logical_alike held.old held.new }
 {
     let memory = if filled > MANY_BLOCKS {
@@ -123,7 +124,8 @@ fn size_stripe(
         (numbers_freed fileid.0 size stripe.old) }
     ensures left { result ≡ filled - length (numbers_freed fileid.0 size stripe.old) }
     ensures dead { dead.new ≡ dead_marked (numbers_freed fileid.0 size stripe.old) dead.old }
-    ensures sized { stripe.new ≡ stripe_shaped fileid.0 size (option_map ownership_of owner) stripe.old }
+    ensures sized { stripe.new
+        ≡ stripe_shaped fileid.0 size (option_map ownership_of owner) stripe.old }
 {
     stripe.take_touch(fileid);
     let left = cut_stripe(stripe, dead, fileid, size, filled, memory, freed);

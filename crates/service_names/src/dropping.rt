@@ -1,35 +1,145 @@
 //! Nodes that lose their names.
 
-ghost use Rattle.std.specs.Prelude.{◌≡◌, ◌≤◌, ◌<◌, ◌^◌, ℕ, Some, None};
+ghost use Rattle.std.specs.Prelude.{◌≡◌, ◌≤◌, ◌<◌, ◌^◌, ℕ, Some, None, is_some};
 ghost use Rattle.std.specs.FinMap.{get};
+ghost use Rattle.std.specs.Option.{option_map};
 ghost use Rattle.parcels.specs.Filled.{logical_alike};
 ghost use Rattle.nfs_values.specs.Moment.{moment_of};
 ghost use Rattle.nfs_model.specs.volume.Directories.{removed};
 ghost use Rattle.nfs_model.specs.volume.Inodes.{inode_set, inode_dropped};
 ghost use Rattle.nfs_model.specs.volume.Maps.{changed_at};
-ghost use Rattle.inodes.specs.Inode.{inode_value, kind_value};
-ghost use Rattle.filer_state.specs.state.Names.{parent_in};
+ghost use Rattle.inodes.specs.Inode.{attributes_value, inode_value, kind_value};
+ghost use Rattle.filer_state.specs.state.Changes.{attributes_now};
+ghost use Rattle.filer_state.specs.state.Names.{parent_in, size_in};
 ghost use Rattle.filer_state.specs.state.Sets.{logical_before, logical_after};
 ghost use Rattle.filer_state.specs.changes.NameAnswers.{entries_of};
 ghost use Rattle.filer_state.specs.changes.NodesDropped.{
   directories_left,
   directory_left,
   node_dropped,
+  texts_left,
   without_subdirectories,
 };
 ghost use Rattle.filer_state.specs.changes.NodesMade.{directories_in};
-ghost use Rattle.filer_state.specs.changes.Dropping.{dropping_of, child_emptied, file_gone};
-ghost use Rattle.service_names.specs.Changing.{inode_left, MayBeSet, with_directories, with_inodes};
+ghost use Rattle.filer_state.specs.changes.Dropping.{
+  child_emptied,
+  dropping_of,
+  file_gone,
+  name_gone,
+  one_gone,
+};
+ghost use Rattle.service_names.specs.Changing.{
+  inode_left,
+  MayBeSet,
+  with_directories,
+  with_inodes,
+  with_texts,
+};
 ghost use Rattle.service_names.specs.Naming.{node_value, naming_of};
 
+use crate::attributes::attributes_now;
 use crate::cards::drop_cards;
 use crate::making::directories_in;
 use crate::node::Node;
 use crate::sizing::empty_file;
+use crate::touches::take_touches;
 use filer_state::{Files, LogicalParcel};
 use inodes::{Inode, InodeKind, StoredAttributes};
 use nfs_values::{Fileid, Moment};
 use parcels::LogicalHeld;
+
+/// Takes a name of a node that isn't a directory out of its directory, and tells the directory's
+/// inode: with its last name the node is dropped, and a file's blocks are dead then. It needs no
+/// memory.
+pub(crate) fn drop_name(
+    held: &mut LogicalHeld<Files>,
+    directory: Node,
+    name: &[u8],
+    child: Node,
+    moment: Moment,
+) -> Inode
+    requires child { MayBeSet child.fileid.0 (logical_before held.old) }
+    requires file { parent_in (kind_value child.inode.kind) ≡ None }
+    requires entered { get held.old.own.directories directory.fileid.0
+        ≡ Some (entries_of held.old.own directory.fileid.0) }
+    ensures inode { (v : ℕ) → inode_value result ≡ directory_left
+        (dropping_of (naming_of v directory name.now (moment_of moment) (logical_before held.old))
+        (node_value child)) }
+    ensures set { (v : ℕ) → logical_after held.old held.new ≡ (name_gone
+        (naming_of v directory name.now (moment_of moment) (logical_before held.old))
+        (node_value child)).set }
+    ensures alike { logical_alike held.old held.new }
+{
+    if child.inode.names > 1 {
+        return drop_one_name(held, directory, name, child, moment);
+    }
+    if is_file(child.inode.kind) {
+        return drop_file(held, directory, name, child, moment);
+    }
+    drop_node(held, directory, name, child, moment)
+}
+
+/// Whether a node of a kind is a file.
+fn is_file(kind: InodeKind) -> bool
+    ensures { result ≡ is_some (size_in (kind_value kind)) }
+{
+    match kind {
+        InodeKind::RegularFile { .. } => true,
+        InodeKind::Directory { .. } => false,
+        InodeKind::Special { .. } => false,
+    }
+}
+
+/// Takes a name of a node that has others out of its directory, and tells the directory's inode:
+/// the node settles, and has one name less. It takes no memory.
+fn drop_one_name(
+    held: &mut LogicalHeld<Files>,
+    directory: Node,
+    name: &[u8],
+    child: Node,
+    moment: Moment,
+) -> Inode
+    requires few { held.old.own.stripes ≤ 16 }
+    requires used { held.old.own.inodes.used < 2 ^ 62 }
+    requires more { 1 < child.inode.names }
+    requires entered { get held.old.own.directories directory.fileid.0
+        ≡ Some (entries_of held.old.own directory.fileid.0) }
+    ensures inode { (v : ℕ) → inode_value result ≡ directory_left
+        (dropping_of (naming_of v directory name.now (moment_of moment) (logical_before held.old))
+        (node_value child)) }
+    ensures set { (v : ℕ) → logical_after held.old held.new ≡ (one_gone
+        (naming_of v directory name.now (moment_of moment) (logical_before held.old))
+        (node_value child)).set }
+    ensures alike { logical_alike held.old held.new }
+{
+    let left = directory_left(directory.inode, child.inode.kind, moment);
+    let touch = take_touches(held, child.fileid);
+    let counted = counted_inode(child.inode, touch, child.inode.names - 1, moment);
+    let own = held.own.get_mut();
+    own.inodes.set(directory.fileid, left);
+    own.inodes.set(child.fileid, counted);
+    own.directories.remove_entry(directory.fileid, name);
+    left
+}
+
+/// The inode of a node that gets or loses a name at a moment and has this many then, where this was
+/// its file's latest touch: it settles, and its ctime is the moment's.
+pub fn counted_inode(inode: Inode, touch: Option<Moment>, names: u32, moment: Moment) -> Inode
+    ensures attributes { attributes_value result.attributes
+        ≡ record (attributes_now (option_map moment_of touch) (attributes_value inode.attributes)
+        (kind_value inode.kind)) { ctime = moment_of moment } }
+    ensures names { result.names ≡ names }
+    ensures kind { result.kind ≡ inode.kind }
+{
+    Inode {
+        attributes: StoredAttributes {
+            ctime: moment,
+            ..attributes_now(inode, touch)
+        },
+        names,
+        kind: inode.kind,
+    }
+}
 
 /// Drops a file under a name of a directory, whose blocks are dead then, and tells the directory's
 /// inode. It needs no memory.
@@ -86,6 +196,7 @@ pub(crate) fn drop_node(
     drop_cards(held, child.fileid);
     drop_inode(&mut held.own, child.fileid, directory.fileid, left);
     drop_directory(&mut held.own, child.inode.kind, child.fileid);
+    drop_text(&mut held.own, child.inode.kind, child.fileid);
     drop_entry(&mut held.own, directory.fileid, name);
     left
 }
@@ -103,6 +214,7 @@ pub fn directory_left(inode: Inode, kind: InodeKind, moment: Moment) -> Inode
             ..inode.attributes
         },
         kind: kind_left(inode.kind, kind),
+        ..inode
     }
 }
 
@@ -143,7 +255,24 @@ pub fn drop_directory(own: &mut LogicalParcel, kind: InodeKind, fileid: Fileid)
 {
     match kind {
         InodeKind::RegularFile { .. } => {}
+        InodeKind::Special { .. } => {}
         InodeKind::Directory { .. } => own.get_mut().directories.remove(fileid),
+    }
+}
+
+/// Drops the text of a node of a kind, if it is a symbolic link. It takes no memory.
+pub fn drop_text(own: &mut LogicalParcel, kind: InodeKind, fileid: Fileid)
+    ensures { own.new ≡ with_texts
+        (texts_left (kind_value kind) fileid.0 own.old.texts) own.old }
+{
+    match kind {
+        InodeKind::RegularFile { .. } => {}
+        InodeKind::Directory { .. } => {}
+        InodeKind::Special { size, .. } => {
+            if size != 0 {
+                own.get_mut().texts.remove(fileid);
+            }
+        }
     }
 }
 

@@ -38,8 +38,8 @@ use nfs_values::{Caller, CreateMode, FileHandle, Moment, Named, SetAttributes, S
 use parcels::LogicalHeld;
 use rights::over_taken;
 
-/// CREATE where the name is there: EXIST if it is guarded, or for a directory; an exclusive one
-/// answers the file of its verifier, and an unchecked one sets the file. It needs no memory.
+/// CREATE where the name is there: EXIST if it is guarded, or for what is no file; an exclusive
+/// one answers the file of its verifier, and an unchecked one sets the file. It needs no memory.
 pub(crate) fn create_existing(
     held: &mut LogicalHeld<Files>,
     parent: Parent,
@@ -66,8 +66,8 @@ pub(crate) fn create_existing(
     }
 }
 
-/// An unchecked CREATE where the name is there: EXIST for a directory; a file is set, by a checked
-/// caller its size alone.
+/// An unchecked CREATE where the name is there: EXIST for what is no file; a file is set, by a
+/// checked caller its size alone.
 fn set_existing(
     held: &mut LogicalHeld<Files>,
     parent: Parent,
@@ -89,6 +89,7 @@ fn set_existing(
 {
     match child.inode.kind {
         InodeKind::Directory { .. } => Err(Status::Exists),
+        InodeKind::Special { .. } => Err(Status::Exists),
         InodeKind::RegularFile { .. } => {
             if sets_nothing(caller, set) {
                 return Ok(there(parent, child, latest_touch(held, child.fileid)));
@@ -155,6 +156,7 @@ fn tell_existing(
 {
     match child.inode.kind {
         InodeKind::Directory { .. } => Err(Status::Exists),
+        InodeKind::Special { .. } => Err(Status::Exists),
         InodeKind::RegularFile { verifier: kept, .. } => {
             if is_verifier(kept, verifier) {
                 return Ok(there(parent, child, latest_touch(held, child.fileid)));

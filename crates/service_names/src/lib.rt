@@ -2,7 +2,6 @@
 //! for each group of them; and the steps of which other calls are made.
 #![tactic(auto)]
 
-mod access;
 mod ahead;
 mod as_directory;
 mod asking;
@@ -14,6 +13,7 @@ pub mod creating;
 mod cutting;
 mod dropping;
 mod existing;
+pub mod linking;
 pub mod listing;
 pub mod listing_plus;
 pub mod looking;
@@ -25,6 +25,7 @@ mod new_inodes;
 mod node;
 mod parent;
 mod protection;
+pub mod reading_link;
 pub mod refusing;
 pub mod removing;
 pub mod setting;
@@ -37,7 +38,7 @@ pub use ahead::Ahead;
 pub use attributes::attributes_now;
 pub use cards::drop_cards;
 pub use child::{child_at, directory_change, is_dots, is_empty};
-pub use dropping::{directory_left, drop_directory, drop_inode};
+pub use dropping::{counted_inode, directory_left, drop_directory, drop_inode, drop_text};
 pub use filer_state::changes::renaming_calls_are_right;
 pub use making::with_child;
 pub use naming::{is_same_name, name_fault};

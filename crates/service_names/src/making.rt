@@ -32,16 +32,18 @@ ghost use Rattle.filer_state.specs.changes.NodesMade.{
   directories_made,
   directories_in,
   node_made,
+  texts_made,
   with_subdirectories,
 };
 ghost use Rattle.filer_state.specs.changes.Making.{held_made, making_of};
 ghost use Rattle.service_names.specs.Cards.{InFirst, DiffersByCard, HasCard, IsDropped};
-ghost use Rattle.service_names.specs.Changing.{with_directories, with_inodes};
+ghost use Rattle.service_names.specs.Changing.{text_given, with_directories};
+ghost use Rattle.service_names.specs.Changing.{with_inodes, with_texts};
 ghost use Rattle.service_names.specs.Making.{
   MayMake,
   naming_in_parent,
   inode_dated,
-  without_directory,
+  without_parts,
   node_unmade,
 };
 ghost use Rattle.service_names.specs.Shown.{HasFewLinks};
@@ -59,26 +61,29 @@ use nfs_values::{FileHandle, Fileid, Name, Named, Ownership};
 use parcels::LogicalHeld;
 use std::alloc::{AllocError, Global};
 
-/// Makes a node under a name of a directory, and tells it. Where memory runs out nothing has
-/// changed.
+/// Makes a node under a name of a directory, with a text if it isn't empty, and tells it. Where
+/// memory runs out nothing has changed.
 pub(crate) fn make_told(
     alloc: Global,
     held: &mut LogicalHeld<Files>,
     parent: Parent,
     name: &[u8],
     made: Inode,
+    text: &[u8],
 ) -> Result<MakeResults, AllocError>
     requires may { MayMake (naming_in_parent parent name.now (logical_before held.old)) }
     requires empty { filled_blocks (kind_value made.kind) ≡ 0 }
     requires links { HasFewLinks (kind_value made.kind) }
     ensures told { IfOk result (λ told. made_told told ≡ (held_made
-        (naming_in_parent parent name.now (logical_before held.old)) (inode_value made)).answer) }
+        (naming_in_parent parent name.now (logical_before held.old)) (inode_value made)
+        (text_given text.now)).answer) }
     ensures set { OnOk result (logical_after held.old held.new ≡ (held_made
-        (naming_in_parent parent name.now (logical_before held.old)) (inode_value made)).set) }
+        (naming_in_parent parent name.now (logical_before held.old)) (inode_value made)
+        (text_given text.now)).set) }
     ensures alike { logical_alike held.old held.new }
     ensures err { OnErr result (held.new ≡ held.old) }
 {
-    let fileid = make_node(alloc, held, parent, name, made)?;
+    let fileid = make_node(alloc, held, parent, name, made, text)?;
     let volume = parent.volume;
     let directory = Node {
         fileid: parent.fileid,
@@ -91,29 +96,41 @@ pub(crate) fn make_told(
     })
 }
 
-/// Makes a node under a name of a directory, and tells its fileid. Where memory runs out nothing
-/// has changed.
+/// Makes a node under a name of a directory, with a text if it isn't empty, and tells its fileid.
+/// Where memory runs out nothing has changed.
 fn make_node(
     alloc: Global,
     held: &mut LogicalHeld<Files>,
     parent: Parent,
     name: &[u8],
     made: Inode,
+    text: &[u8],
 ) -> Result<Fileid, AllocError>
     requires may { MayMake (naming_in_parent parent name.now (logical_before held.old)) }
     requires empty { filled_blocks (kind_value made.kind) ≡ 0 }
     ensures fileid { IfOk result (λ fileid. fileid.0 ≡ held.old.own.inodes.next) }
     ensures ok { OnOk result (logical_after held.old held.new ≡ node_made
-        (making_of (naming_in_parent parent name.now (logical_before held.old)) (inode_value made))
+        (making_of (naming_in_parent parent name.now (logical_before held.old)) (inode_value made)
+        (text_given text.now))
         (logical_before held.old)) }
     ensures alike { logical_alike held.old held.new }
     ensures err { OnErr result (held.new ≡ held.old) }
 {
     let name = Name::copied(alloc, name)?;
+    let text = text_kept(alloc, text)?;
     let created = create_inode(held, made)?;
     let fileid = created.fileid();
     let owner = made.attributes.ownership();
-    match tie(alloc, held, parent.fileid, name, fileid, owner, made.kind) {
+    match tie(
+        alloc,
+        held,
+        parent.fileid,
+        name,
+        fileid,
+        owner,
+        made.kind,
+        text,
+    ) {
         Ok(()) => {
             set_directory(held, parent, made.kind);
             Ok(created.keep())
@@ -138,8 +155,9 @@ fn create_inode(held: &mut LogicalHeld<Files>, made: Inode) -> Result<Created, A
     held.own.get_mut().inodes.create(made)
 }
 
-/// Puts what a new node has beside its inode: entries, if it is a directory, its cards, and its
-/// name. Where memory runs out some of it may be there, but not the name.
+/// Puts what a new node has beside its inode: entries, if it is a directory, its text, if it is a
+/// symbolic link, its cards, and its name. Where memory runs out some of it may be there, but not
+/// the name.
 fn tie(
     alloc: Global,
     held: &mut LogicalHeld<Files>,
@@ -148,6 +166,7 @@ fn tie(
     fileid: Fileid,
     owner: Ownership,
     kind: InodeKind,
+    text: Option<Name>,
 ) -> Result<(), AllocError>
     requires few { held.old.own.stripes ≤ 16 }
     requires apart { (directory.0 == fileid.0) ≡ false }
@@ -156,21 +175,23 @@ fn tie(
         (λ d. found d name ≡ None) }
     ensures own { OnOk result (held.new.own ≡ with_directories
         (changed_at (added name fileid.0) directory.0
-        (directories_made (kind_value kind) fileid.0 held.old.own.directories)) held.old.own) }
+        (directories_made (kind_value kind) fileid.0 held.old.own.directories))
+        (with_texts (texts_made text fileid.0 held.old.own.texts) held.old.own)) }
     ensures cards { OnOk result (InFirst
         (HasCard (ownership_of owner) (kind_value kind) fileid.0)
         held.old.own.stripes held.old.stripes.at held.new.stripes.at) }
     ensures others { InFirst (DiffersByCard fileid.0) held.old.own.stripes
         held.old.stripes.at held.new.stripes.at }
-    ensures err { OnErr result (without_directory fileid.0 held.new.own
-        ≡ without_directory fileid.0 held.old.own) }
+    ensures err { OnErr result (without_parts fileid.0 held.new.own
+        ≡ without_parts fileid.0 held.old.own) }
 {
     put_directory(alloc, held, fileid, kind)?;
+    put_text(held, fileid, text)?;
     put_cards(held, fileid, owner, kind)?;
     add_entry(held, directory, name, fileid)
 }
 
-/// Puts the entries of a new directory, which has none; a file has none either.
+/// Puts the entries of a new directory, which has none; nothing else has entries.
 fn put_directory(
     alloc: Global,
     held: &mut LogicalHeld<Files>,
@@ -184,6 +205,7 @@ fn put_directory(
 {
     match kind {
         InodeKind::RegularFile { .. } => Ok(()),
+        InodeKind::Special { .. } => Ok(()),
         InodeKind::Directory { .. } => {
             let entries = Directory::new(alloc);
             held.own.get_mut().directories.insert(fileid, entries)
@@ -191,8 +213,36 @@ fn put_directory(
     }
 }
 
+/// A copy of the text of a new symbolic link, if it is one.
+fn text_kept(alloc: Global, text: &[u8]) -> Result<Option<Name>, AllocError>
+    ensures { IfOk result (λ kept. kept ≡ text_given text.now) }
+{
+    if text.is_empty() {
+        return Ok(None);
+    }
+    let text = Name::copied(alloc, text)?;
+    Ok(Some(text))
+}
+
+/// Puts the text of a new symbolic link, if it is one.
+fn put_text(
+    held: &mut LogicalHeld<Files>,
+    fileid: Fileid,
+    text: Option<Name>,
+) -> Result<(), AllocError>
+    ensures ok { OnOk result (held.new.own
+        ≡ with_texts (texts_made text fileid.0 held.old.own.texts) held.old.own) }
+    ensures err { OnErr result (held.new.own ≡ held.old.own) }
+    ensures stripes { held.new.stripes ≡ held.old.stripes }
+{
+    match text {
+        Some(text) => held.own.get_mut().texts.insert(fileid, text),
+        None => Ok(()),
+    }
+}
+
 /// Adds an entry to a directory.
-fn add_entry(
+pub(crate) fn add_entry(
     held: &mut LogicalHeld<Files>,
     directory: Fileid,
     name: Name,
@@ -223,7 +273,7 @@ fn unmake(held: &mut LogicalHeld<Files>, created: Created)
     drop_inode(held, created);
 }
 
-/// Takes out the inode that was made last, and the entries of its fileid.
+/// Takes out the inode that was made last, and the entries and the text of its fileid.
 fn drop_inode(held: &mut LogicalHeld<Files>, created: Created)
     requires last { held.old.own.inodes.next ≡ created + 1 }
     requires made { is_some (inode_of held.old.own.inodes created) ≡ true }
@@ -232,6 +282,7 @@ fn drop_inode(held: &mut LogicalHeld<Files>, created: Created)
 {
     let own = held.own.get_mut();
     own.directories.remove(created.fileid());
+    own.texts.remove(created.fileid());
     own.inodes.undo_create(created);
 }
 
@@ -250,7 +301,7 @@ fn set_directory(held: &mut LogicalHeld<Files>, parent: Parent, made: InodeKind)
 
 /// The inode of a directory in which a node of a kind is made: both times are the moment's, and a
 /// directory is one more subdirectory.
-fn dated(parent: Parent, made: InodeKind) -> Inode
+pub(crate) fn dated(parent: Parent, made: InodeKind) -> Inode
     requires { IfSome (subdirectories_in (kind_value parent.inode.kind))
         (λ subdirectories. subdirectories < inodes_of_a_volume) }
     ensures { inode_value result ≡ inode_dated (inode_value parent.inode) (kind_value made)
@@ -264,6 +315,7 @@ fn dated(parent: Parent, made: InodeKind) -> Inode
     Inode {
         attributes,
         kind: with_child(parent.inode.kind, made),
+        ..parent.inode
     }
 }
 
@@ -275,6 +327,7 @@ pub fn with_child(kind: InodeKind, made: InodeKind) -> InodeKind
 {
     match kind {
         InodeKind::RegularFile { .. } => kind,
+        InodeKind::Special { .. } => kind,
         InodeKind::Directory {
             parent,
             subdirectories,
@@ -292,6 +345,7 @@ pub(crate) fn directories_in(kind: InodeKind) -> u32
 {
     match kind {
         InodeKind::RegularFile { .. } => 0,
+        InodeKind::Special { .. } => 0,
         InodeKind::Directory { .. } => 1,
     }
 }

@@ -106,7 +106,7 @@ fn entry_of(
 }
 
 /// That there is a directory which a caller may search: STALE where there is no node of the fileid,
-/// NOTDIR where it is a file, else ACCES.
+/// NOTDIR where it is no directory, else ACCES.
 fn check_searched(held: &LogicalHeld<Files>, fileid: Fileid, caller: &Caller) -> Result<(), Status>
     ensures { (answer : Answer) → in_searched (caller_of caller.now)
         (get held.now.own.inodes.inodes fileid.0) answer
@@ -118,6 +118,7 @@ fn check_searched(held: &LogicalHeld<Files>, fileid: Fileid, caller: &Caller) ->
     };
     match inode.kind {
         InodeKind::RegularFile { .. } => Err(Status::NotDirectory),
+        InodeKind::Special { .. } => Err(Status::NotDirectory),
         InodeKind::Directory { .. } => match search_fault(caller, &inode) {
             Some(fault) => Err(fault),
             None => Ok(()),
@@ -134,8 +135,8 @@ fn search_fault(caller: &Caller, directory: &Inode) -> Option<Status>
     refusal_of(caller, false, needs(may))
 }
 
-/// That there is a directory: STALE where there is no node of the fileid, NOTDIR where it is a
-/// file.
+/// That there is a directory: STALE where there is no node of the fileid, NOTDIR where it is no
+/// directory.
 fn check_directory(held: &LogicalHeld<Files>, fileid: Fileid) -> Result<(), Status>
     ensures { (answer : Answer) → in_directory (get held.now.own.inodes.inodes fileid.0) answer
         ≡ result_of (λ there. answer) 0 result }
@@ -146,6 +147,7 @@ fn check_directory(held: &LogicalHeld<Files>, fileid: Fileid) -> Result<(), Stat
     };
     match inode.kind {
         InodeKind::RegularFile { .. } => Err(Status::NotDirectory),
+        InodeKind::Special { .. } => Err(Status::NotDirectory),
         InodeKind::Directory { .. } => Ok(()),
     }
 }

@@ -6,15 +6,16 @@ ghost use Rattle.nfs_model.specs.Serial.Create.{asked_attributes, kept_verifier,
 ghost use Rattle.nfs_values.specs.Attributes.{kind_of};
 ghost use Rattle.nfs_values.specs.Moment.{moment_of};
 ghost use Rattle.nfs_values.specs.Set.{mode_of, set_of};
+ghost use Rattle.nfs_values.specs.Special.{special_of};
 ghost use Rattle.inodes.specs.Inode.{attributes_value, inode_value};
-ghost use Rattle.filer_state.specs.changes.Making.{file_inode, made_directory_inode};
+ghost use Rattle.filer_state.specs.changes.Making.{file_inode, made_directory_inode, special_inode};
 ghost use Rattle.service_names.specs.Making.{maker_in_parent};
 
 use crate::attributes::{given_mode, time_after};
 use crate::parent::Parent;
 use inodes::{Inode, InodeKind, StoredAttributes};
-use nfs_values::{Caller, CreateMode, FileKind, SetAttributes, Verifier};
-use rights::{Maker, NO_ATTRIBUTES};
+use nfs_values::{Caller, CreateMode, FileKind, SetAttributes, SpecialType, Verifier};
+use rights::Maker;
 
 /// The mode of a new file where none is given (our profile).
 const FILE_MODE: u16 = 0o644;
@@ -30,6 +31,7 @@ pub(crate) fn file_inode(mode: &CreateMode, caller: &Caller, parent: &Parent) ->
     let set = asked_attributes(mode);
     Inode {
         attributes: new_attributes(&set, FileKind::Regular, FILE_MODE, caller, parent),
+        names: 1,
         kind: InodeKind::RegularFile {
             size: set.size.unwrap_or(0),
             filled: 0,
@@ -45,10 +47,32 @@ pub(crate) fn made_directory_inode(set: &SetAttributes, caller: &Caller, parent:
 {
     Inode {
         attributes: new_attributes(set, FileKind::Directory, DIRECTORY_MODE, caller, parent),
+        names: 1,
         kind: InodeKind::Directory {
             parent: parent.fileid,
             subdirectories: 0,
         },
+    }
+}
+
+/// The inode of a special node that a caller makes in a directory, of this mode where none is
+/// given, with a text of this length.
+pub(crate) fn special_inode(
+    special: SpecialType,
+    mode: u16,
+    set: &SetAttributes,
+    size: u32,
+    caller: &Caller,
+    parent: &Parent,
+) -> Inode
+    requires { mode < 4096 }
+    ensures { inode_value result ≡ special_inode (special_of special) mode (set_of set.now) size
+        (maker_in_parent caller.now parent.now) (moment_of parent.now.moment) }
+{
+    Inode {
+        attributes: new_attributes(set, FileKind::Special(special), mode, caller, parent),
+        names: 1,
+        kind: InodeKind::Special { special, size },
     }
 }
 
@@ -59,7 +83,7 @@ pub(crate) fn asked_attributes(mode: &CreateMode) -> SetAttributes
     match mode {
         CreateMode::Unchecked(set) => *set,
         CreateMode::Guarded(set) => *set,
-        CreateMode::Exclusive(_) => NO_ATTRIBUTES,
+        CreateMode::Exclusive(_) => SetAttributes::NOTHING,
     }
 }
 

@@ -19,6 +19,7 @@ fn kind_shown(kind: InodeKind) -> FileKind
     match kind {
         InodeKind::RegularFile { .. } => FileKind::Regular,
         InodeKind::Directory { .. } => FileKind::Directory,
+        InodeKind::Special { special, .. } => FileKind::Special(special),
     }
 }
 

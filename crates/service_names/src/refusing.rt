@@ -8,7 +8,6 @@ ghost use Rattle.std.specs.Option.{option_map};
 ghost use Rattle.nfs_model.specs.Types as types;
 ghost use Rattle.nfs_model.specs.Serial.Permission.{
   is_no_child,
-  is_one_entry,
   needs,
   refusal_of,
   set_refusal,
@@ -16,14 +15,20 @@ ghost use Rattle.nfs_model.specs.Serial.Permission.{
 };
 ghost use Rattle.nfs_model.specs.Serial.Rights as rights;
 ghost use Rattle.nfs_model.specs.Serial.Rights.{may_list, may_search};
+ghost use Rattle.nfs_model.specs.volume.Directories.{fileid_found};
+ghost use Rattle.filer_state.specs.changes.NameAnswers.{entries_of};
+ghost use Rattle.nfs_values.specs.Attributes.{kind_of};
 ghost use Rattle.nfs_values.specs.Caller.{caller_of};
 ghost use Rattle.nfs_values.specs.Credential.{credential_of};
 ghost use Rattle.nfs_values.specs.Set.{mode_of, set_of};
 ghost use Rattle.nfs_values.specs.Status.{status_of};
 ghost use Rattle.rights.specs.Protection.{protection_of};
 ghost use Rattle.filer_state.specs.permissions.Refusing.{
+  are_one,
   create_asked,
   gone_asked,
+  link_asked,
+  mknod_asked,
   move_asked,
   new_asked,
   of_directory_inode,
@@ -34,18 +39,19 @@ ghost use Rattle.filer_state.specs.permissions.Refusing.{
   target_asked,
 };
 ghost use Rattle.filer_state.specs.state.Sets.{logical_before};
-ghost use Rattle.service_names.specs.Refusing.{asked_by};
+ghost use Rattle.service_names.specs.Refusing.{asked_by, unless_one};
 
 use crate::asking::{asks_over, gone_fault, is_free, is_settled, moved_fault, over_fault};
 use crate::child::{find, is_dots};
-use crate::naming::{is_same_name, name_fault};
+use crate::naming::name_fault;
 use crate::protection::protection_of;
 use filer_state::Files;
 use inodes::InodeKind;
-use nfs_values::{Caller, CreateMode, Credential, Fileid, SetAttributes, Status};
+use nfs_values::{Caller, CreateMode, Credential, FileKind, Fileid, SetAttributes, Status};
 use parcels::LogicalHeld;
 use rights::{
-    Protection, asked_first, may_change, may_list, may_search, needs, set_refusal as fault_of_set,
+    Protection, asked_first, device_fault, may_change, may_list, may_search, needs,
+    set_refusal as fault_of_set,
 };
 
 // ---- by procedure
@@ -117,7 +123,7 @@ pub fn creating_refusal(
     }
 }
 
-/// A refusal of a MKDIR (RFC 1813 section 3.3.9).
+/// A refusal of a MKDIR or a SYMLINK (RFC 1813 sections 3.3.9 and 3.3.10).
 pub fn making_refusal(
     held: &LogicalHeld<Files>,
     directory: Fileid,
@@ -130,6 +136,42 @@ pub fn making_refusal(
 {
     match asked_first(caller, true) {
         Ok(()) => making_fault(held, directory, name, &caller.credential),
+        Err(told) => told,
+    }
+}
+
+/// A refusal of a MKNOD (RFC 1813 section 3.3.11): a device is for uid 0 to make.
+pub fn node_refusal(
+    held: &LogicalHeld<Files>,
+    directory: Fileid,
+    name: &[u8],
+    kind: FileKind,
+    caller: &Caller,
+) -> Option<Status>
+    ensures { option_map status_of result ≡ refusal_of (caller_of caller.now) true
+        (of_held_name (credential_of caller.now.credential) name.now (logical_before held.now)
+        directory.0 (mknod_asked (credential_of caller.now.credential) (kind_of kind))) }
+{
+    match asked_first(caller, true) {
+        Ok(()) => node_fault(held, directory, name, kind, &caller.credential),
+        Err(told) => told,
+    }
+}
+
+/// A refusal of a LINK (RFC 1813 section 3.3.15) of a node under a name of a directory.
+pub fn linking_refusal(
+    held: &LogicalHeld<Files>,
+    fileid: Fileid,
+    directory: Fileid,
+    name: &[u8],
+    caller: &Caller,
+) -> Option<Status>
+    ensures { option_map status_of result ≡ refusal_of (caller_of caller.now) true
+        (link_asked (credential_of caller.now.credential) name.now (logical_before held.now)
+        fileid.0 directory.0) }
+{
+    match asked_first(caller, true) {
+        Ok(()) => linking_fault(held, fileid, directory, name, &caller.credential),
         Err(told) => told,
     }
 }
@@ -202,6 +244,7 @@ fn directory_asked(held: &LogicalHeld<Files>, fileid: Fileid) -> Result<Protecti
     };
     match inode.kind {
         InodeKind::RegularFile { .. } => Err(None),
+        InodeKind::Special { .. } => Err(None),
         InodeKind::Directory { .. } => Ok(protection_of(&inode)),
     }
 }
@@ -344,7 +387,7 @@ fn is_told(may: bool, asks_over: bool) -> bool
     may && !asks_over
 }
 
-/// What of a MKDIR is refused a checked caller.
+/// What of a new name is refused a checked caller.
 fn making_fault(
     held: &LogicalHeld<Files>,
     directory: Fileid,
@@ -360,7 +403,7 @@ fn making_fault(
     }
 }
 
-/// What of a MKDIR is refused in a directory of this protection.
+/// What of a new name is refused in a directory of this protection.
 fn made_fault(
     held: &LogicalHeld<Files>,
     fileid: Fileid,
@@ -378,6 +421,66 @@ fn made_fault(
     match protection_under(held, fileid, name) {
         Some(_) => None,
         None => Some(Status::Access),
+    }
+}
+
+/// What of a MKNOD is refused a checked caller.
+fn node_fault(
+    held: &LogicalHeld<Files>,
+    directory: Fileid,
+    name: &[u8],
+    kind: FileKind,
+    who: &Credential,
+) -> Option<Status>
+    ensures { option_map status_of result ≡ of_held_name (credential_of who.now) name.now
+        (logical_before held.now) directory.0 (mknod_asked (credential_of who.now) (kind_of kind)) }
+{
+    match named(held, directory, name, who) {
+        Ok(protection) => made_node_fault(held, directory, name, kind, who, &protection),
+        Err(told) => told,
+    }
+}
+
+/// What of a MKNOD is refused in a directory of this protection.
+fn made_node_fault(
+    held: &LogicalHeld<Files>,
+    fileid: Fileid,
+    name: &[u8],
+    kind: FileKind,
+    who: &Credential,
+    directory: &Protection,
+) -> Option<Status>
+    ensures { option_map status_of result ≡ mknod_asked (credential_of who.now) (kind_of kind)
+        (protection_of directory.now)
+        (protection_under (logical_before held.now) fileid.0 name.now) }
+{
+    let fault = match needs(may_change(who, directory)) {
+        Some(fault) => Some(fault),
+        None => device_fault(who, kind),
+    };
+    if fault.is_none() {
+        return None;
+    }
+    match protection_under(held, fileid, name) {
+        Some(_) => None,
+        None => fault,
+    }
+}
+
+/// What of a LINK is refused a checked caller: what of a new name is, where the node is there.
+fn linking_fault(
+    held: &LogicalHeld<Files>,
+    fileid: Fileid,
+    directory: Fileid,
+    name: &[u8],
+    who: &Credential,
+) -> Option<Status>
+    ensures { option_map status_of result ≡ link_asked (credential_of who.now) name.now
+        (logical_before held.now) fileid.0 directory.0 }
+{
+    match held.own.get().inodes.get(fileid) {
+        Some(_) => making_fault(held, directory, name, who),
+        None => None,
     }
 }
 
@@ -420,13 +523,25 @@ fn removed_fault(
 
 // ---- of two names
 
-/// Whether a RENAME moves no entry: a name is that of none, or both are of one.
-fn is_no_move(from: Fileid, from_name: &[u8], to: Fileid, to_name: &[u8]) -> bool
-    ensures { result ≡ (is_no_child from_name.now || is_no_child to_name.now
-        || is_one_entry from.0 from_name.now to.0 to_name.now) }
+/// Whether both names are of one node, of which nothing is asked.
+fn are_one(
+    held: &LogicalHeld<Files>,
+    from: Fileid,
+    from_name: &[u8],
+    to: Fileid,
+    to_name: &[u8],
+) -> bool
+    ensures { result ≡ are_one (fileid_found (entries_of held.now.own from.0) from_name.now)
+        (fileid_found (entries_of held.now.own to.0) to_name.now) }
 {
-    let is_one = from.0 == to.0 && is_same_name(from_name, to_name);
-    is_no_child(from_name) || is_no_child(to_name) || is_one
+    let fileid = match find(held, from, from_name) {
+        Some(fileid) => fileid,
+        None => return false,
+    };
+    match find(held, to, to_name) {
+        Some(target) => target.0 == fileid.0,
+        None => false,
+    }
 }
 
 /// What of a RENAME is refused a checked caller.
@@ -455,7 +570,7 @@ fn renaming_fault(
     if !may_search(who, &target) {
         return Some(Status::Access);
     }
-    if is_no_move(from, from_name, to, to_name) {
+    if is_no_child(from_name) || is_no_child(to_name) {
         return None;
     }
     moving_fault(held, from, from_name, to, to_name, &source, &target, who)
@@ -472,15 +587,41 @@ fn moving_fault(
     target: &Protection,
     who: &Credential,
 ) -> Option<Status>
+    ensures { option_map status_of result ≡ unless_one
+        (are_one (fileid_found (entries_of held.now.own from.0) from_name.now)
+        (fileid_found (entries_of held.now.own to.0) to_name.now))
+        (move_asked (credential_of who.now) (from.0 == to.0)
+        (protection_of source.now) (protection_of target.now)
+        (protection_under (logical_before held.now) from.0 from_name.now)
+        (protection_under (logical_before held.now) to.0 to_name.now)) }
+{
+    let stays = from.0 == to.0;
+    if is_settled(who, stays, source, target) {
+        return None;
+    }
+    if are_one(held, from, from_name, to, to_name) {
+        return None;
+    }
+    moved_between(held, from, from_name, to, to_name, source, target, who)
+}
+
+/// What of a RENAME is refused where its names aren't of one node.
+fn moved_between(
+    held: &LogicalHeld<Files>,
+    from: Fileid,
+    from_name: &[u8],
+    to: Fileid,
+    to_name: &[u8],
+    source: &Protection,
+    target: &Protection,
+    who: &Credential,
+) -> Option<Status>
     ensures { option_map status_of result ≡ move_asked (credential_of who.now) (from.0 == to.0)
         (protection_of source.now) (protection_of target.now)
         (protection_under (logical_before held.now) from.0 from_name.now)
         (protection_under (logical_before held.now) to.0 to_name.now) }
 {
     let stays = from.0 == to.0;
-    if is_settled(who, stays, source, target) {
-        return None;
-    }
     let object = match protection_under(held, from, from_name) {
         Some(object) => object,
         None => return None,

@@ -1,6 +1,6 @@
 //! REMOVE and RMDIR.
 
-ghost use Rattle.std.specs.Prelude.{◌≡◌, ◌≤◌, ◌<◌, ◌^◌, [], Some};
+ghost use Rattle.std.specs.Prelude.{◌≡◌, ◌≤◌, ◌<◌, ◌^◌, [], Some, None};
 ghost use Rattle.std.specs.FinMap.{get};
 ghost use Rattle.parcels.specs.Filled.{logical_alike};
 ghost use Rattle.nfs_values.specs.Answer.{answer_of};
@@ -12,14 +12,18 @@ ghost use Rattle.filer_state.specs.state.Sets.{logical_before, logical_after};
 ghost use Rattle.inodes.specs.Inode.{kind_value};
 ghost use Rattle.filer_state.specs.changes.NameAnswers.{entries_of};
 ghost use Rattle.filer_state.specs.changes.Named.{node_under};
-ghost use Rattle.filer_state.specs.changes.Dropping.{rmdir_kind};
+ghost use Rattle.nfs_model.specs.Types.{GoneDone};
+ghost use Rattle.nfs_values.specs.Attributes.{change_of};
+ghost use Rattle.filer_state.specs.state.Names.{parent_in};
+ghost use Rattle.filer_state.specs.changes.Dropping.{name_gone, rmdir_kind};
+ghost use Rattle.service_names.specs.Changing.{MayBeSet};
 ghost use Rattle.service_names.specs.Naming.{naming_of, node_value};
 ghost use Rattle.service_names.specs.Promises.{Removes, RemovesDirectory};
 ghost use Rattle.service_names.specs.Shown.{HasFewLinks};
 ghost use Rattle.filer_state.specs.changes.Laws.{remove_done, rmdir_done};
 
 use crate::child::{child_at, directory_change, directory_named, is_dots, is_empty};
-use crate::dropping::{drop_file, drop_node};
+use crate::dropping::{drop_name, drop_node};
 use crate::naming::is_same_name;
 use crate::node::Node;
 use filer_state::Files;
@@ -30,7 +34,8 @@ use parcels::LogicalHeld;
 
 /// REMOVE (RFC 1813 section 3.3.12), on the parcels of a volume's names and attributes, at a
 /// moment: STALE, NOTDIR, what is wrong with the name, INVAL for `.` and `..`, NOENT, or ISDIR for
-/// a directory; else the file is gone with its name, and its blocks are dead. It needs no memory.
+/// a directory; else the name is gone, and with its last name the node; a file's blocks are dead
+/// then. It needs no memory.
 pub fn remove(
     held: &mut LogicalHeld<Files>,
     volume: VolumeNumber,
@@ -92,17 +97,45 @@ fn file_removed(
         Some(child) => child,
         None => return Err(Status::NoEntry),
     };
+    let as_directory = Node {
+        fileid: directory,
+        inode,
+    };
     match child.inode.kind {
         InodeKind::Directory { .. } => Err(Status::IsDirectory),
         InodeKind::RegularFile { .. } => {
-            let as_directory = Node {
-                fileid: directory,
-                inode,
-            };
-            let left = drop_file(held, as_directory, name, child, moment);
-            Ok(directory_change(volume, as_directory, left))
+            Ok(name_removed(held, volume, as_directory, name, child, moment))
+        }
+        InodeKind::Special { .. } => {
+            Ok(name_removed(held, volume, as_directory, name, child, moment))
         }
     }
+}
+
+/// Removes the name of a node that isn't a directory, and tells of the directory.
+fn name_removed(
+    held: &mut LogicalHeld<Files>,
+    volume: VolumeNumber,
+    directory: Node,
+    name: &[u8],
+    child: Node,
+    moment: Moment,
+) -> Change
+    requires child { MayBeSet child.fileid.0 (logical_before held.old) }
+    requires file { parent_in (kind_value child.inode.kind) ≡ None }
+    requires links { HasFewLinks (kind_value directory.inode.kind) }
+    requires entered { get held.old.own.directories directory.fileid.0
+        ≡ Some (entries_of held.old.own directory.fileid.0) }
+    ensures told { GoneDone (change_of result) ≡ (name_gone
+        (naming_of volume.0 directory name.now (moment_of moment) (logical_before held.old))
+        (node_value child)).answer }
+    ensures set { logical_after held.old held.new ≡ (name_gone
+        (naming_of volume.0 directory name.now (moment_of moment) (logical_before held.old))
+        (node_value child)).set }
+    ensures alike { logical_alike held.old held.new }
+{
+    let left = drop_name(held, directory, name, child, moment);
+    directory_change(volume, directory, left)
 }
 
 /// What RMDIR comes to.
@@ -168,6 +201,7 @@ fn drop_directory(
 {
     match child.inode.kind {
         InodeKind::RegularFile { .. } => Err(Status::NotDirectory),
+        InodeKind::Special { .. } => Err(Status::NotDirectory),
         InodeKind::Directory { .. } => {
             if !is_empty(held, child.fileid) {
                 return Err(Status::NotEmpty);

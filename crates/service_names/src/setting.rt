@@ -18,6 +18,7 @@ ghost use Rattle.service_names.specs.Promises.{SetsAttributes};
 ghost use Rattle.service_names.specs.Changing.{MayBeSet, with_value};
 
 use crate::attributes::{attributes_now, set_fault, with_attributes};
+use crate::protection::protection_of;
 use crate::showing::{prior, shown, shown_now};
 use crate::sizing::{set_inode, size_file};
 use crate::touches::{latest_touch, settle_stripes};
@@ -26,11 +27,11 @@ use filer_state::changes::setting_calls_are_right;
 use inodes::{Inode, InodeKind, StoredAttributes};
 use nfs_values::{Caller, Change, Fileid, Moment, SetAttributes, Status, VolumeNumber};
 use parcels::LogicalHeld;
-use rights::file_set_taken;
+use rights::set_checked;
 
 /// SETATTR (RFC 1813 section 3.3.2), on the parcels of a volume's names and attributes, at a
 /// moment: STALE where there is no node of the fileid, NOT_SYNC where a guard is another ctime,
-/// INVAL for a bad time or the size of a directory, FBIG for a size over the largest; else the
+/// INVAL for a bad time or a size of what is no file, FBIG for a size over the largest; else the
 /// node is set, and the blocks that leave a file are dead. It needs no memory.
 pub fn set_attributes(
     held: &mut LogicalHeld<Files>,
@@ -84,17 +85,15 @@ fn attributes_set(
     Ok(Change { before, after })
 }
 
-/// What a caller sets of a node: of a directory, all that is given; of a file with the mode that
-/// it may have.
+/// What a caller sets of a node: of a directory, all that is given; of anything else with the
+/// mode that it may have.
 pub(crate) fn set_taken(caller: &Caller, set: &SetAttributes, inode: Inode) -> SetAttributes
     ensures { set_of result
         ≡ taken_of (caller_of caller.now) (set_of set.now) (inode_value inode) }
 {
     match inode.kind {
-        InodeKind::RegularFile { .. } => {
-            file_set_taken(caller, set, inode.attributes.ownership())
-        }
         InodeKind::Directory { .. } => *set,
+        _ => set_checked(caller, set, &protection_of(&inode)),
     }
 }
 
@@ -141,7 +140,7 @@ fn settle_node(
     settle_stripes(held, fileid, attributes.ownership());
     let changed = Inode {
         attributes,
-        kind: inode.kind,
+        ..inode
     };
     set_inode(held, fileid, changed);
     changed

@@ -24,7 +24,7 @@ use parcels::LogicalHeld;
 const DIRECTORY_SIZE: u64 = 4_096;
 
 /// The attributes of a node of a volume (fattr3, RFC 1813 section 2.6). The stripes are asked for
-/// the latest touch of a file alone, since a directory has none.
+/// the latest touch of a file alone, since nothing else has one.
 pub fn shown_now(
     held: &LogicalHeld<Files>,
     volume: VolumeNumber,
@@ -39,6 +39,7 @@ pub fn shown_now(
     match inode.kind {
         InodeKind::RegularFile { .. } => shown(volume, fileid, inode, latest_touch(held, fileid)),
         InodeKind::Directory { .. } => shown(volume, fileid, inode, None),
+        InodeKind::Special { .. } => shown(volume, fileid, inode, None),
     }
 }
 
@@ -51,13 +52,15 @@ pub(crate) fn shown(
 ) -> Attributes
     requires few { HasFewLinks (kind_value inode.kind) }
     ensures { shown_of result ≡ shown_kind volume.0 fileid.0
-        (attributes_value inode.attributes) (kind_value inode.kind) (option_map moment_of touch) }
+        (attributes_value inode.attributes) inode.names (kind_value inode.kind)
+        (option_map moment_of touch) }
 {
     match inode.kind {
         InodeKind::RegularFile { size, filled, .. } => {
             let now = inode.attributes.with_touch(touch);
             Attributes {
                 kind: FileKind::Regular,
+                links: inode.names,
                 size,
                 used: BLOCK_BYTES * u64::from(filled),
                 ..shown_empty(volume, fileid, now)
@@ -69,12 +72,18 @@ pub(crate) fn shown(
             size: DIRECTORY_SIZE,
             ..shown_empty(volume, fileid, inode.attributes)
         },
+        InodeKind::Special { special, size } => Attributes {
+            kind: FileKind::Special(special),
+            links: inode.names,
+            size: u64::from(size),
+            ..shown_empty(volume, fileid, inode.attributes)
+        },
     }
 }
 
-/// The attributes of an empty file with these (fattr3, RFC 1813 section 2.6).
+/// The attributes of an empty file with these and one name (fattr3, RFC 1813 section 2.6).
 fn shown_empty(volume: VolumeNumber, fileid: Fileid, now: StoredAttributes) -> Attributes
-    ensures { shown_of result ≡ shown_kind volume.0 fileid.0 (attributes_value now)
+    ensures { shown_of result ≡ shown_kind volume.0 fileid.0 (attributes_value now) 1
         (RegularFile 0 0 None) None }
 {
     Attributes {

@@ -40,8 +40,8 @@ pub fn size_file(
     shape_file(held, fileid, inode, attributes, size, owner)
 }
 
-/// Takes all bytes of a file that is to be dropped, and tells its inode; its blocks are dead, and its
-/// cards stay. It needs no memory.
+/// Takes all bytes of a file that is to be dropped, and tells its inode; its blocks are dead, and
+/// its cards stay. It needs no memory.
 pub(crate) fn empty_file(held: &mut LogicalHeld<Files>, fileid: Fileid, inode: Inode) -> Inode
     requires { MayBeSet fileid.0 (logical_before held.old) }
     ensures inode { inode_value result ≡ inode_sized
@@ -78,6 +78,7 @@ fn shape_file(
     let sized = Inode {
         attributes,
         kind: sized_kind(inode.kind, size, left),
+        ..inode
     };
     set_inode(held, fileid, sized);
     sized
@@ -95,6 +96,7 @@ fn sized_kind(kind: InodeKind, size: u64, left: u32) -> InodeKind
             verifier,
         },
         InodeKind::Directory { .. } => kind,
+        InodeKind::Special { .. } => kind,
     }
 }
 

@@ -9,13 +9,13 @@ ghost use Rattle.nfs_values.specs.Caller.{caller_of};
 ghost use Rattle.service_names.specs.Promises.{ChecksAccess, TellsInfo, TellsPath};
 ghost use Rattle.service_names.specs.Shown.{IsObject};
 
-use crate::access::access_given;
 use crate::protection::protection_of;
 use crate::showing::shown_now;
 use filer_state::Files;
 use nfs_values::answer::{AccessResults, FilesystemInfoResults, PathConfigurationResults};
 use nfs_values::{Attributes, Caller, Fileid, Status, VolumeNumber};
 use parcels::LogicalHeld;
+use rights::access_given;
 
 /// The attributes of the node of a fileid, or STALE where there is none.
 pub(crate) fn object_at(

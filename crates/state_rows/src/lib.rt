@@ -1,5 +1,5 @@
-//! The state of a volume tried: names, inodes, cards, files, block numbers and calls remembered, with
-//! what each call gives. What a test has made is left to the end of its process.
+//! The state of a volume tried: names, inodes, cards, files, block numbers and calls remembered,
+//! with what each call gives. What a test has made is left to the end of its process.
 #![tactic(auto)]
 
 #[cfg(test)]

@@ -2,13 +2,25 @@
 
 use crate::same::same;
 use inodes::{GROUP, Inode, InodeKind, Inodes, StoredAttributes};
-use nfs_values::{Fileid, Moment, Ownership, Verifier};
+use nfs_values::{Device, Fileid, Moment, Ownership, SpecialType, Verifier};
 use std::mem;
 use std::process::Abort;
 
 const MADE: Moment = Moment {
     seconds: 7,
     nanoseconds: 0,
+};
+
+/// When a file was written last.
+const TOUCH: Moment = Moment {
+    seconds: 9,
+    nanoseconds: 0,
+};
+
+/// When a node got or lost a name.
+const CHANGED: Moment = Moment {
+    seconds: 8,
+    nanoseconds: 1,
 };
 
 /// The owner of the root.
@@ -18,17 +30,21 @@ const OWNER: Ownership = Ownership {
     gid: 65533,
 };
 
-/// A file of one owner with this many bytes and filled blocks.
+/// What one owner made.
+const ATTRIBUTES: StoredAttributes = StoredAttributes {
+    mode: 0o644,
+    uid: 65534,
+    gid: 65534,
+    atime: MADE,
+    mtime: MADE,
+    ctime: MADE,
+};
+
+/// A file with this many bytes and filled blocks, and one name.
 fn file(size: u64, filled: u32) -> Inode {
     Inode {
-        attributes: StoredAttributes {
-            mode: 0o644,
-            uid: 65534,
-            gid: 65534,
-            atime: MADE,
-            mtime: MADE,
-            ctime: MADE,
-        },
+        attributes: ATTRIBUTES,
+        names: 1,
         kind: InodeKind::RegularFile {
             size,
             filled,
@@ -36,6 +52,35 @@ fn file(size: u64, filled: u32) -> Inode {
         },
     }
 }
+
+/// What is neither a file nor a directory, with one name.
+fn special(special: SpecialType, size: u32) -> Inode {
+    Inode {
+        attributes: ATTRIBUTES,
+        names: 1,
+        kind: InodeKind::Special { special, size },
+    }
+}
+
+/// One of each after three files, the devices of different numbers.
+const SPECIALS: [(u64, SpecialType, u32); 5] = [
+    (5, SpecialType::SymbolicLink, 1_024),
+    (6, SpecialType::Fifo, 0),
+    (7, SpecialType::Socket, 0),
+    (
+        8,
+        SpecialType::BlockDevice(Device {
+            major: 8,
+            minor: u32::MAX,
+        }),
+        0,
+    ),
+    (
+        9,
+        SpecialType::CharacterDevice(Device { major: 1, minor: 3 }),
+        0,
+    ),
+];
 
 /// Creates an inode where there is room for it, and tells its fileid, or else the root's.
 fn create(rt: &impl Abort, inodes: &mut Inodes, inode: Inode) -> Fileid {
@@ -125,15 +170,11 @@ fn made_and_dropped(rt: HostRuntime) {
 #[test]
 fn settled(rt: HostRuntime) {
     let mut inodes = three(&rt);
-    let touch = Moment {
-        seconds: 9,
-        nanoseconds: 0,
-    };
-    inodes.settle(Fileid(3), Some(touch));
+    inodes.settle(Fileid(3), Some(TOUCH));
     inodes.settle(Fileid(3), None);
-    inodes.settle(Fileid(5), Some(touch));
-    let held = file(0, 0).attributes_held(Some(touch));
-    same(&rt, &(held.mtime, held.atime), &(touch, MADE));
+    inodes.settle(Fileid(5), Some(TOUCH));
+    let held = file(0, 0).attributes_held(Some(TOUCH));
+    same(&rt, &(held.mtime, held.atime), &(TOUCH, MADE));
     let shown = inodes.get(Fileid(3)).map(|inode| inode.attributes);
     same(&rt, &shown, &Some(held));
     mem::forget(inodes);
@@ -149,6 +190,52 @@ fn set_where_there(rt: HostRuntime) {
     same(&rt, &inodes.get(Fileid(5)), &None);
     same(&rt, &inodes.get(Fileid(4)), &Some(file(65536, 16)));
     mem::forget(inodes);
+}
+
+#[test]
+fn of_each_kind(rt: HostRuntime) {
+    let mut inodes = three(&rt);
+    for (fileid, kind, size) in SPECIALS {
+        let made = create(&rt, &mut inodes, special(kind, size));
+        same(&rt, &made, &Fileid(fileid));
+    }
+    same(&rt, &counts(&inodes), &(9, 17));
+    for (fileid, kind, size) in SPECIALS {
+        let found = inodes.get(Fileid(fileid));
+        same(&rt, &found, &Some(special(kind, size)));
+    }
+    inodes.drop_node(Fileid(6));
+    same(&rt, &counts(&inodes), &(8, 17));
+    same(&rt, &inodes.get(Fileid(6)), &None);
+    mem::forget(inodes);
+}
+
+/// How many names an inode has, and its times.
+fn linked(inode: Option<Inode>) -> Option<(u32, Moment, Moment)> {
+    inode.map(|inode| (inode.names, inode.attributes.mtime, inode.attributes.ctime))
+}
+
+#[test]
+fn names(rt: HostRuntime) {
+    let one = file(4096, 1);
+    let two = one.with_link(Some(TOUCH), CHANGED);
+    same(&rt, &linked(two), &Some((2, TOUCH, CHANGED)));
+    let two = one.with_link(None, CHANGED).expect(&rt, "a second name");
+    same(&rt, &linked(Some(two)), &Some((2, MADE, CHANGED)));
+    let again = two.without_link(None, TOUCH);
+    same(&rt, &linked(again), &Some((1, MADE, TOUCH)));
+    same(&rt, &one.without_link(None, TOUCH), &None);
+}
+
+#[test]
+fn as_many_names_as_a_node_has(rt: HostRuntime) {
+    let one = file(4096, 1);
+    let names = 64_999;
+    let last = Inode { names, ..one }.with_link(None, CHANGED);
+    same(&rt, &linked(last), &Some((65_000, MADE, CHANGED)));
+    let names = 65_000;
+    let none = Inode { names, ..one }.with_link(None, CHANGED);
+    same(&rt, &none, &None);
 }
 
 #[test]

@@ -2,11 +2,11 @@
 
 use crate::same::same;
 use memos::Memos;
-use nfs_values::answer::{MakeResults, RenameResults};
+use nfs_values::answer::{LinkResults, MakeResults, RenameResults};
 use nfs_values::{
-    Answer, Attributes, Call, Caller, Change, CreateMode, Credential, FileHandle, FileKind, Fileid,
-    GroupList, Moment, Name, Named, PeerAddress, PriorAttributes, SetAttributes, SetTime, Status,
-    Target, Verifier, VolumeNumber,
+    Answer, Attributes, Call, Caller, Change, CreateMode, Credential, Device, FileHandle, FileKind,
+    Fileid, GroupList, Moment, Name, Named, PeerAddress, PriorAttributes, SetAttributes, SetTime,
+    SpecialType, Status, Target, Verifier, VolumeNumber,
 };
 use std::mem;
 use std::process::Abort;
@@ -123,16 +123,20 @@ fn places(rt: &(impl Abort + AllocGlobal), count: u32) -> Memos {
 }
 
 /// The size of the first directory in an answer, and of the second if there are two, with the
-/// procedure; for what was made its fileid by its handle.
+/// procedure; for what was made its fileid by its handle, and for what has one more name its
+/// fileid.
 fn shown(answer: &Answer) -> (&'static str, u64, u64) {
     let name = answer.procedure().name();
     match answer {
         Answer::SetAttributes(Ok(change)) => (name, change.after.size, 0),
         Answer::Create(Ok(made)) => (name, made.directory.after.size, fileid_made(made)),
         Answer::MakeDirectory(Ok(made)) => (name, made.directory.after.size, fileid_made(made)),
+        Answer::MakeSymbolicLink(Ok(made)) => (name, made.directory.after.size, fileid_made(made)),
+        Answer::MakeDevice(Ok(made)) => (name, made.directory.after.size, fileid_made(made)),
         Answer::Remove(Ok(change)) => (name, change.after.size, 0),
         Answer::RemoveDirectory(Ok(change)) => (name, change.after.size, 0),
         Answer::Rename(Ok(moved)) => (name, moved.from.after.size, moved.to.after.size),
+        Answer::MakeLink(Ok(made)) => (name, made.directory.after.size, made.object.fileid.0),
         _ => (name, 0, 0),
     }
 }
@@ -222,6 +226,114 @@ fn each_removal_comes_again(rt: HostRuntime) {
         to: changed(4),
     }));
     comes_again(&rt, rename, moved, ("RENAME", 3, 4));
+}
+
+/// A SYMLINK of a name, with a text.
+fn link(rt: &(impl Abort + AllocGlobal), text: &[u8]) -> Call {
+    Call::MakeSymbolicLink {
+        target: target(rt, b"a link"),
+        set: SET,
+        text: Name::copied(rt.alloc(), text).expect(rt, "no memory"),
+    }
+}
+
+/// A MKNOD of a name.
+fn node(rt: &(impl Abort + AllocGlobal), special: SpecialType) -> Call {
+    Call::MakeDevice {
+        target: target(rt, b"a node"),
+        kind: FileKind::Special(special),
+        set: SET,
+    }
+}
+
+/// A LINK of the node of a fileid.
+fn another_name(rt: &(impl Abort + AllocGlobal), fileid: u64) -> Call {
+    let fileid = Fileid(fileid);
+    Call::MakeLink {
+        handle: FileHandle::naming(Named {
+            volume: VOLUME,
+            fileid,
+        }),
+        target: target(rt, &[0x63; 255]),
+    }
+}
+
+/// A block device.
+fn block_device(major: u32, minor: u32) -> SpecialType {
+    SpecialType::BlockDevice(Device { major, minor })
+}
+
+/// What a SYMLINK was answered.
+fn link_made() -> Answer {
+    let kind = FileKind::Special(SpecialType::SymbolicLink);
+    Answer::MakeSymbolicLink(Ok(made(kind)))
+}
+
+/// What a LINK was answered.
+fn name_made() -> Answer {
+    Answer::MakeLink(Ok(LinkResults {
+        object: attributes(FileKind::Regular, 12, 0),
+        directory: changed(6),
+    }))
+}
+
+#[test]
+fn each_link_comes_again(rt: HostRuntime) {
+    let wanted = ("SYMLINK", 5, 12);
+    comes_again(&rt, link(&rt, &[0x64; 1_024]), link_made(), wanted);
+    let made = Answer::MakeDevice(Ok(made(FileKind::Special(SpecialType::Fifo))));
+    comes_again(&rt, node(&rt, SpecialType::Fifo), made, ("MKNOD", 5, 12));
+    comes_again(&rt, another_name(&rt, 12), name_made(), ("LINK", 6, 12));
+}
+
+/// Looks whether one call is told what was answered, and another isn't.
+fn is_told_alone(
+    rt: &(impl Abort + AllocGlobal),
+    call: Call,
+    other: Call,
+    answer: Answer,
+    wanted: (&'static str, u64, u64),
+) {
+    let mut memos = places(rt, 1);
+    memos.remember(&CALLER, &call, DONE, &answer);
+    same(rt, &told(&memos, &CALLER, &call, DONE), &Some(wanted));
+    same(rt, &told(&memos, &CALLER, &other, DONE), &None);
+    mem::forget(memos);
+}
+
+#[test]
+fn other_links_do_not(rt: HostRuntime) {
+    let wanted = ("SYMLINK", 5, 12);
+    is_told_alone(
+        &rt,
+        link(&rt, b"to"),
+        link(&rt, b"from"),
+        link_made(),
+        wanted,
+    );
+    is_told_alone(
+        &rt,
+        link(&rt, b"to"),
+        link(&rt, b"to the"),
+        link_made(),
+        wanted,
+    );
+    let device = node(&rt, block_device(8, 1));
+    let other = node(&rt, block_device(8, 2));
+    let made = Answer::MakeDevice(Ok(made(FileKind::Special(block_device(8, 1)))));
+    is_told_alone(&rt, device, other, made, ("MKNOD", 5, 12));
+    let call = another_name(&rt, 12);
+    let other = another_name(&rt, 13);
+    is_told_alone(&rt, call, other, name_made(), ("LINK", 6, 12));
+}
+
+#[test]
+fn text_too_long_to_be_remembered(rt: HostRuntime) {
+    let mut memos = places(&rt, 1);
+    let long = link(&rt, &[0x64; 1_025]);
+    memos.remember(&CALLER, &long, DONE, &link_made());
+    same(&rt, &told(&memos, &CALLER, &long, DONE), &None);
+    mem::forget(memos);
 }
 
 /// A REMOVE of a name.

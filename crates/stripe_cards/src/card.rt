@@ -27,6 +27,7 @@ pub enum Card {
         touch: Option<Moment>,
         owner: Ownership,
     },
+    /// Of what has no bytes in stripes: a directory, a symbolic link, a FIFO, a socket or a device.
     Directory,
 }
 
@@ -38,6 +39,7 @@ pub enum CardKind {
         size: u64,
         owner: Ownership,
     },
+    /// Of what has no bytes in stripes.
     Directory,
 }
 

@@ -106,8 +106,8 @@ impl Cards {
         self.chunks.put(fileid.0, Card::File { size, touch, owner })
     }
 
-    /// Sets the card of a directory. Memory is needed only for a card that isn't there, and where
-    /// there is none for it nothing changes.
+    /// Sets the card of a directory, or of what else has no bytes in stripes. Memory is needed only
+    /// for a card that isn't there, and where there is none for it nothing changes.
     pub fn set_directory(&mut self, fileid: Fileid) -> Result<(), AllocError>
         ensures ok { OnOk result (self.new ≡ insert self.old fileid.0 OfDirectory) }
         ensures err { OnErr result (self.new ≡ self.old) }

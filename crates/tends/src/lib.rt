@@ -27,7 +27,7 @@ pub use everything::gather;
 pub use held::Held;
 pub use holding::hold;
 pub use left::Left;
-pub use moments::{share_millisecond, time_now};
+pub use moments::time_now;
 pub use patience::Patience;
 pub use refusal::StartRefusal;
 pub use room::{MOST_WORKERS, Room};

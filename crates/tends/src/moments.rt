@@ -2,7 +2,7 @@
 
 ghost use Rattle.std.specs.Prelude.{◌<◌};
 
-use nfs_values::{Moment, NANOSECONDS_OF_A_MILLISECOND};
+use nfs_values::Moment;
 use std::rt::Clock;
 
 /// The time now, or the last one that was told, where the clock can't be read.
@@ -17,11 +17,4 @@ pub fn time_now<R: Clock>(rt: &R, last: Moment) -> Moment
         },
         Err(_) => last,
     }
-}
-
-/// Whether two moments are in one millisecond.
-pub fn share_millisecond(one: Moment, other: Moment) -> bool {
-    one.seconds == other.seconds
-        && one.nanoseconds / NANOSECONDS_OF_A_MILLISECOND
-            == other.nanoseconds / NANOSECONDS_OF_A_MILLISECOND
 }

@@ -5,8 +5,8 @@ use crate::layouts::two_volumes;
 use affinity::homes::home_of;
 use affinity::{CallNode, Layout};
 use nfs_values::{
-    BytesToWrite, Call, Cookie, CreateMode, FileHandle, Name, SetAttributes, SetTime, Target,
-    UnsupportedProcedure, Verifier, VolumeNumber,
+    BytesToWrite, Call, Cookie, CreateMode, FileHandle, FileKind, Name, SetAttributes, SpecialType,
+    Target, Verifier, VolumeNumber,
 };
 use std::alloc::Global;
 use std::mem;
@@ -16,16 +16,6 @@ use std::process::Abort;
 fn handle(volume: u8, fileid: u8) -> FileHandle {
     FileHandle::new(&[0, 0, 0, volume, 0, 0, 0, 0, 0, 0, 0, fileid])
 }
-
-/// Nothing is set.
-const NOTHING: SetAttributes = SetAttributes {
-    mode: None,
-    uid: None,
-    gid: None,
-    size: None,
-    atime: SetTime::Keep,
-    mtime: SetTime::Keep,
-};
 
 /// A name in a directory.
 fn target_in(alloc: Global, directory: FileHandle) -> Target {
@@ -68,7 +58,7 @@ fn homes_by_handle(rt: HostRuntime) {
     is_logical(&rt, &layout, get);
     let set = Call::SetAttributes {
         handle: handle(1, 1),
-        set: NOTHING,
+        set: SetAttributes::NOTHING,
         guard: None,
     };
     is_logical(&rt, &layout, set);
@@ -81,6 +71,10 @@ fn homes_by_handle(rt: HostRuntime) {
         asked: 63,
     };
     is_logical(&rt, &layout, access);
+    let link = Call::ReadLink {
+        handle: handle(1, 2),
+    };
+    is_logical(&rt, &layout, link);
     let info = Call::FilesystemInfo {
         handle: handle(1, 1),
     };
@@ -119,14 +113,26 @@ fn homes_by_name(rt: HostRuntime) {
     is_logical(&rt, &layout, Call::Lookup(target(rt.alloc())));
     let create = Call::Create {
         target: target(rt.alloc()),
-        mode: CreateMode::Unchecked(NOTHING),
+        mode: CreateMode::Unchecked(SetAttributes::NOTHING),
     };
     is_logical(&rt, &layout, create);
     let make = Call::MakeDirectory {
         target: target(rt.alloc()),
-        set: NOTHING,
+        set: SetAttributes::NOTHING,
     };
     is_logical(&rt, &layout, make);
+    let link = Call::MakeSymbolicLink {
+        target: target(rt.alloc()),
+        set: SetAttributes::NOTHING,
+        text: Name::new(Vec::new(rt.alloc())),
+    };
+    is_logical(&rt, &layout, link);
+    let node = Call::MakeDevice {
+        target: target(rt.alloc()),
+        kind: FileKind::Special(SpecialType::Fifo),
+        set: SetAttributes::NOTHING,
+    };
+    is_logical(&rt, &layout, node);
     is_logical(&rt, &layout, Call::Remove(target(rt.alloc())));
     is_logical(&rt, &layout, Call::RemoveDirectory(target(rt.alloc())));
     is_logical(&rt, &layout, mount_below(rt.alloc(), 1));
@@ -142,12 +148,33 @@ fn renaming(alloc: Global, from: u8, to: u8) -> Call {
     }
 }
 
+/// Volumes of which one is another than the other, or isn't there.
+const APART: [(u8, u8); 5] = [(0, 1), (1, 0), (1, 2), (2, 1), (2, 2)];
+
 #[test]
 fn homes_by_two_names(rt: HostRuntime) {
     let layout = two_volumes(&rt);
     is_logical(&rt, &layout, renaming(rt.alloc(), 1, 1));
-    for (from, to) in [(0, 1), (1, 0), (1, 2), (2, 1), (2, 2)] {
-        has_home(&rt, &layout, renaming(rt.alloc(), from, to), None);
+    for (from, to) in &APART {
+        has_home(&rt, &layout, renaming(rt.alloc(), *from, *to), None);
+    }
+    mem::forget(layout);
+}
+
+/// A name in the root of one volume for a file of another, or of the same.
+fn linking(alloc: Global, file: u8, directory: u8) -> Call {
+    Call::MakeLink {
+        handle: handle(file, 2),
+        target: target_in(alloc, handle(directory, 1)),
+    }
+}
+
+#[test]
+fn homes_of_links(rt: HostRuntime) {
+    let layout = two_volumes(&rt);
+    is_logical(&rt, &layout, linking(rt.alloc(), 1, 1));
+    for (file, directory) in &APART {
+        has_home(&rt, &layout, linking(rt.alloc(), *file, *directory), None);
     }
     mem::forget(layout);
 }
@@ -185,8 +212,6 @@ fn calls_without_home(rt: HostRuntime) {
         count: 1,
     };
     has_home(&rt, &layout, Call::Null, None);
-    let link = Call::Unsupported(UnsupportedProcedure::MakeLink);
-    has_home(&rt, &layout, link, None);
     let info = Call::FilesystemInfo {
         handle: handle(2, 1),
     };

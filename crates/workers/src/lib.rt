@@ -26,7 +26,7 @@ pub use pool::Pool;
 pub use putting_back::put_back;
 pub use tends::{
     Ended, Found, Left, MOST_WORKERS, Patience, Room, StartRefusal, Tending, close, drain_behind,
-    found_by, gather, push_batch, push_kept, share_millisecond, time_now,
+    found_by, gather, push_batch, push_kept, time_now,
 };
 pub use turns::Worker;
 pub use worked::Worked;

@@ -77,8 +77,8 @@ fn home_of_names(handle: &FileHandle, layout: &Layout) -> Option<CallNode>
     Some(CallNode::Logical(named.volume.0))
 }
 
-/// Where a call on names in two directories is at home: with the one volume that both are of.
-fn home_of_renaming(from: &FileHandle, to: &FileHandle, layout: &Layout) -> Option<CallNode>
+/// Where a call with two handles is at home: with the one volume that both name.
+fn home_of_two(from: &FileHandle, to: &FileHandle, layout: &Layout) -> Option<CallNode>
     ensures home { let L = layout_of layout.now in option_map call_node result
         ≡ rename_home (named_by L from.now) (named_by L to.now) }
     ensures node { IfSome result (λ a. IsNode (layout_of layout.now) (call_node a)) }
@@ -133,7 +133,7 @@ fn home_of_route(route: Route<'_>, layout: &Layout) -> Option<CallNode>
             offset,
             count,
         } => home_of_bytes(handle, offset, count, layout),
-        Route::TwoHandles { from, to } => home_of_renaming(from, to, layout),
+        Route::TwoHandles { from, to } => home_of_two(from, to, layout),
         Route::Volume { handle } => home_of_volume(handle, layout),
         Route::Aggregate { volume } => home_of_growth(volume, layout),
         Route::Everything => Some(CallNode::Serial),

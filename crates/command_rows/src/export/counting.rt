@@ -1,7 +1,7 @@
 //! Rows typed by hand.
 
 use crate::looking::holds;
-use nfs_values::{Answer, AuthFault, Procedure, Refusal, Reply, Status, UnsupportedProcedure};
+use nfs_values::{Answer, AuthFault, Procedure, Refusal, Reply, Status};
 use statistics::{Histogram, RefusalKind, ReplyCounts, ReplyKind, Tally, Totals};
 use std::process::Abort;
 use std::thread;
@@ -120,7 +120,7 @@ fn named() -> [(Reply, &'static str); 13] {
         ),
         (Reply::Success(Answer::Remove(Err(Status::Stale))), "REMOVE"),
         (
-            Reply::Success(Answer::Unsupported(UnsupportedProcedure::MakeDevice)),
+            Reply::Success(Answer::MakeDevice(Err(Status::BadType))),
             "MKNOD",
         ),
         (Reply::Success(Answer::Stop), "STOP"),

@@ -9,9 +9,10 @@ use Rattle.nfs_model.specs.Server.{block_size}
 use Rattle.nfs_model.specs.Home.{span_bytes}
 use Rattle.nfs_model.specs.Serial.Write.{blocks_met}
 use Rattle.nfs_model.specs.volume.Maps.{changed_at}
-use Rattle.nfs_model.specs.volume.Inodes.{InodeKind, RegularFile, DirectoryKind, Inode, InodesValue, inode_set}
+use Rattle.nfs_model.specs.volume.Inodes.{InodeKind, Inode, InodesValue, inode_set}
 use Rattle.nfs_model.specs.volume.Stripes.{Card, OfFile, OfDirectory, StripeValue, stripe_of, is_filled, block_inserted, overwritten}
 use Rattle.filer_state.specs.state.Tree.{home_stripe}
+use Rattle.filer_state.specs.state.Kinds.{file_changed}
 use Rattle.filer_state.specs.state.Lenses.{LogicalSet}
 
 -- ---- holes
@@ -61,8 +62,7 @@ spans_written fileid offset written moment stripes =
 
 -- a file of at least a size, with this many blocks more
 abbrev pub kind_extended : ℕ → ℕ → InodeKind → InodeKind
-kind_extended end more (RegularFile size filled verifier) = RegularFile (max size end) (filled + more) verifier
-kind_extended end more (DirectoryKind parent subdirectories) = DirectoryKind parent subdirectories
+kind_extended end more kind = file_changed (λ size. max size end) (λ filled. filled + more) kind
 
 abbrev pub inode_extended : ℕ → ℕ → Inode → Inode
 inode_extended end more inode = record inode { kind = kind_extended end more inode.kind }

@@ -11,7 +11,7 @@ use Rattle.nfs_model.specs.Tree.{Volume}
 use Rattle.nfs_model.specs.Serial.Write.{Writing, bytes_kept}
 use Rattle.nfs_model.specs.Work.{Outcome, Replied, Moved}
 use Rattle.depot_rule.specs.Sums.{total}
-use Rattle.nfs_model.specs.volume.Inodes.{InodeKind, RegularFile, DirectoryKind, Inode}
+use Rattle.nfs_model.specs.volume.Inodes.{InodeKind, RegularFile, Inode}
 use Rattle.nfs_model.specs.volume.Ranges.{RangeValue, taken, without_numbers, dead_taken}
 use Rattle.filer_state.specs.state.Tree.{ranges_used}
 use Rattle.filer_state.specs.state.WellFormed.{range_at}
@@ -31,7 +31,7 @@ file_due largest w =
 -- INVAL for a directory
 abbrev pub kind_due : InodeKind → ℕ → Writing → Result ℕ Status
 kind_due (RegularFile size filled verifier) largest w = file_due largest w
-kind_due (DirectoryKind parent subdirectories) largest w = Err Invalid
+kind_due kind largest w = Err Invalid
 
 -- STALE where there is no inode
 abbrev pub bytes_due : Option Inode → ℕ → Writing → Result ℕ Status

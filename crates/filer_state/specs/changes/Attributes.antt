@@ -1,13 +1,14 @@
 -- SETATTR by what is under Logical (RFC 1813 section 3.3.2).
 use Rattle.std.specs.Prelude.{ℕ, Bool, false, length, Option, Some, None, is_some, if◌then◌else◌}
 use Rattle.std.specs.FinMap.{get}
-use Rattle.nfs_model.specs.Types.{Moment, Caller, Regular, SetAttributes, Status, NotSynchronous, Invalid, TooBig, SetattrDone}
+use Rattle.nfs_model.specs.Types.{Moment, Caller, SetAttributes, Status, NotSynchronous, Invalid, TooBig, SetattrDone}
 use Rattle.nfs_model.specs.Server.{Attributes}
 use Rattle.nfs_model.specs.Shown.{before_of}
 use Rattle.nfs_model.specs.Serial.Rights.{protected}
 use Rattle.nfs_model.specs.Serial.Setattr.{is_stale_guard, has_bad_time, is_past, set_attributes, mode_taken}
 use Rattle.nfs_model.specs.volume.Inodes.{InodeKind, RegularFile, DirectoryKind, Inode}
 use Rattle.filer_state.specs.state.Tree.{file_touch}
+use Rattle.filer_state.specs.state.Protected.{kind_shown}
 use Rattle.filer_state.specs.state.Lenses.{LogicalSet}
 use Rattle.filer_state.specs.state.Changes.{LogicalAnswer, attributes_now, shown_inode, inode_after, node_set}
 use Rattle.filer_state.specs.nodes.Sizing.{Sizing, all_freed, inode_sized, file_sized}
@@ -47,19 +48,19 @@ node_changed fileid set moment inode s = node_sized fileid set moment inode set.
 
 -- by what the node is: of a directory, all that is given
 abbrev pub taken_by : Caller → SetAttributes → Attributes → InodeKind → SetAttributes
-taken_by caller set a (RegularFile size filled verifier) =
-    if caller.checked then record set { mode = mode_taken caller.credential set (protected Regular a) set.mode } else set
 taken_by caller set a (DirectoryKind parent subdirectories) = set
+taken_by caller set a kind =
+    if caller.checked then record set { mode = mode_taken caller.credential set (protected (kind_shown kind) a) set.mode } else set
 
 abbrev pub taken_of : Caller → SetAttributes → Inode → SetAttributes
 taken_of caller set inode = taken_by caller set inode.attributes inode.kind
 
 -- ---- the procedure
 
--- a size for a directory
+-- a size for a directory: only a file may get one
 abbrev pub is_directory_sized : InodeKind → Option ℕ → Bool
 is_directory_sized (RegularFile size filled verifier) asked = false
-is_directory_sized (DirectoryKind parent subdirectories) asked = is_some asked
+is_directory_sized kind asked = is_some asked
 
 -- the first check that fails, by the ctime that holds: the guard, the times, a directory's size, the largest size
 abbrev pub set_fault : ℕ → SetAttributes → Option Moment → Moment → InodeKind → Option Status

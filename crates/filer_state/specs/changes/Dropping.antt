@@ -1,11 +1,13 @@
 -- REMOVE and RMDIR by what is under Logical (RFC 1813 sections 3.3.12 and 3.3.13).
-use Rattle.std.specs.Prelude.{List, [], ◌∷◌, Option, Some, None, length, if◌then◌else◌}
+use Rattle.std.specs.Prelude.{◌-◌, nat_le, List, [], ◌∷◌, Option, Some, None, length, if◌then◌else◌}
 use Rattle.nfs_model.specs.Types.{Listed, GoneDone, NoEntry, Invalid, Exists, IsDirectory, NotDirectory, NotEmpty}
 use Rattle.nfs_model.specs.Names.{same_name, dot, dot_dot, is_dots}
 use Rattle.nfs_model.specs.volume.Inodes.{InodeKind, RegularFile, DirectoryKind}
+use Rattle.filer_state.specs.state.Tree.{file_touch}
 use Rattle.filer_state.specs.state.Lenses.{LogicalSet}
 use Rattle.filer_state.specs.state.Changes.{LogicalAnswer}
 use Rattle.filer_state.specs.nodes.Dropping.{Dropping, directory_left, node_dropped}
+use Rattle.filer_state.specs.nodes.Moving.{Naming, name_dropped}
 use Rattle.filer_state.specs.nodes.Sizing.{Sizing, all_freed, inode_sized, file_sized}
 use Rattle.filer_state.specs.names.Answers.{entries_of}
 use Rattle.filer_state.specs.changes.Named.{fails, HeldNaming, directory_change, HeldNode, node_under}
@@ -48,10 +50,39 @@ child_emptied child s = record {
 abbrev pub file_gone : HeldNaming → HeldNode → LogicalAnswer
 file_gone n child = held_gone n (child_emptied child n.set) (file_sized (emptying_of child) n.set)
 
+-- the last name of a node: only a file has blocks
+abbrev pub last_gone : HeldNaming → HeldNode → InodeKind → LogicalAnswer
+last_gone n child (RegularFile size filled verifier) = file_gone n child
+last_gone n child kind = held_gone n child n.set
+
+-- a name of a node that has others
+abbrev pub losing_of : HeldNaming → HeldNode → Naming
+losing_of n child = record {
+  directory = n.fileid;
+  entries = n.entries;
+  inode = n.inode;
+  name = n.name;
+  fileid = child.fileid;
+  node = child.inode;
+  names = child.inode.names - 1;
+  moment = n.moment;
+}
+
+-- it goes, and the node stays with one name less
+abbrev pub one_gone : HeldNaming → HeldNode → LogicalAnswer
+one_gone n child = record {
+  answer = GoneDone (directory_change n (directory_left (dropping_of n child)));
+  set = name_dropped (losing_of n child) (file_touch n.set.stripes child.fileid) n.set;
+}
+
+-- a name of a node, which goes with its last
+abbrev pub name_gone : HeldNaming → HeldNode → LogicalAnswer
+name_gone n child = if nat_le child.inode.names 1 then last_gone n child child.inode.kind else one_gone n child
+
 -- a directory is ISDIR
 abbrev pub remove_kind : HeldNaming → HeldNode → InodeKind → LogicalAnswer
 remove_kind n child (DirectoryKind parent subdirectories) = fails IsDirectory n.set
-remove_kind n child (RegularFile size filled verifier) = file_gone n child
+remove_kind n child kind = name_gone n child
 
 -- by whether the name is there
 abbrev pub remove_by : HeldNaming → Option HeldNode → LogicalAnswer
@@ -71,9 +102,9 @@ if_empty (e ∷ es) s done = fails NotEmpty s
 
 -- a file is NOTDIR
 abbrev pub rmdir_kind : HeldNaming → HeldNode → InodeKind → LogicalAnswer
-rmdir_kind n child (RegularFile size filled verifier) = fails NotDirectory n.set
 rmdir_kind n child (DirectoryKind parent subdirectories) =
     if_empty (entries_of n.set.own child.fileid).list n.set (held_gone n child n.set)
+rmdir_kind n child kind = fails NotDirectory n.set
 
 -- by whether the name is there
 abbrev pub rmdir_by : HeldNaming → Option HeldNode → LogicalAnswer

@@ -1,13 +1,15 @@
 -- What calls that change a volume come to, by what is under Logical (RFC 1813 section 3.3).
-use Rattle.std.specs.Prelude.{◌≡◌, ℕ, ◌&&◌, ◌==◌, false, List, [], Option, Some, None}
-use Rattle.nfs_model.specs.Types.{Moment, Caller, SetAttributes, CreateMode, Shown, Wcc, MadeDone, Success}
-use Rattle.nfs_model.specs.Types.{Create, Mkdir, Remove, Rmdir, Rename, RenameDone}
+use Rattle.std.specs.Prelude.{◌≡◌, ℕ, false, List, [], Option, Some, None}
+use Rattle.nfs_model.specs.Types.{Moment, Caller, SetAttributes, CreateMode, Kind, Shown, Wcc, MadeDone, LinkDone, Success}
+use Rattle.nfs_model.specs.Types.{Create, Mkdir, Symlink, Mknod, Remove, Rmdir, Rename, RenameDone, Link}
 use Rattle.nfs_model.specs.Tree.{Affinity}
 use Rattle.nfs_model.specs.Server.{handle_of}
-use Rattle.nfs_model.specs.Names.{same_name}
 use Rattle.nfs_model.specs.Locate.{on_name}
 use Rattle.nfs_model.specs.Serial.Create.{create}
 use Rattle.nfs_model.specs.Serial.Mkdir.{mkdir}
+use Rattle.nfs_model.specs.Serial.Symlink.{symlink}
+use Rattle.nfs_model.specs.Serial.Mknod.{mknod}
+use Rattle.nfs_model.specs.Serial.Link.{link}
 use Rattle.nfs_model.specs.Serial.Remove.{remove_name}
 use Rattle.nfs_model.specs.Serial.Rmdir.{rmdir}
 use Rattle.nfs_model.specs.Serial.Rename.{rename}
@@ -22,9 +24,11 @@ use Rattle.filer_state.specs.attributes.Laws.{setattr_call}
 use Rattle.filer_state.specs.names.Answers.{entries_of}
 use Rattle.filer_state.specs.changes.Named.{on_held_name}
 use Rattle.filer_state.specs.changes.Attributes.{held_setattr}
-use Rattle.filer_state.specs.changes.Making.{held_create, held_mkdir}
+use Rattle.filer_state.specs.permissions.Refusing.{are_one}
+use Rattle.filer_state.specs.changes.Making.{held_create, held_mkdir, held_symlink, held_mknod}
 use Rattle.filer_state.specs.changes.Dropping.{held_remove, held_rmdir}
 use Rattle.filer_state.specs.changes.Renaming.{on_held_names, held_rename}
+use Rattle.filer_state.specs.changes.Linking.{link_done}
 
 -- ---- the calls
 
@@ -46,6 +50,24 @@ mkdir_call handle node fileid name set caller moment = record {
   run = λ volume. on_name name moment (mkdir set caller) volume fileid;
 }
 
+abbrev pub symlink_call : List ℕ → Affinity → ℕ → List ℕ → SetAttributes → List ℕ → Caller → Moment → VolumeCall
+symlink_call handle node fileid name set text caller moment = record {
+  call = Symlink handle name set text;
+  caller = unasked;
+  node = node;
+  fileid = fileid;
+  run = λ volume. on_name name moment (symlink set text caller) volume fileid;
+}
+
+abbrev pub mknod_call : List ℕ → Affinity → ℕ → List ℕ → Kind → SetAttributes → Caller → Moment → VolumeCall
+mknod_call handle node fileid name kind set caller moment = record {
+  call = Mknod handle name kind set;
+  caller = unasked;
+  node = node;
+  fileid = fileid;
+  run = λ volume. on_name name moment (mknod kind set caller) volume fileid;
+}
+
 abbrev pub remove_call : List ℕ → Affinity → ℕ → List ℕ → Moment → VolumeCall
 remove_call handle node fileid name moment =
     record { call = Remove handle name; caller = unasked; node = node; fileid = fileid; run = λ volume. on_name name moment remove_name volume fileid }
@@ -64,6 +86,16 @@ rename_call from to node from_id from_name to_id to_name moment = record {
   run = λ volume. rename from_name to_name moment volume from_id to_id;
 }
 
+-- the node's handle comes to the volume; the directory's names another fileid there
+abbrev pub link_call : List ℕ → List ℕ → Affinity → ℕ → ℕ → List ℕ → Moment → VolumeCall
+link_call handle directory node fileid directory_id name moment = record {
+  call = Link handle directory name;
+  caller = unasked;
+  node = node;
+  fileid = fileid;
+  run = λ volume. link name moment volume fileid directory_id;
+}
+
 -- ---- what they come to
 
 abbrev pub create_done : ℕ → ℕ → List ℕ → CreateMode → Caller → Moment → LogicalSet → LogicalAnswer
@@ -71,6 +103,12 @@ create_done v fileid name mode caller moment s = on_held_name v fileid name mome
 
 abbrev pub mkdir_done : ℕ → ℕ → List ℕ → SetAttributes → Caller → Moment → LogicalSet → LogicalAnswer
 mkdir_done v fileid name set caller moment s = on_held_name v fileid name moment (held_mkdir set caller) s
+
+abbrev pub symlink_done : ℕ → ℕ → List ℕ → SetAttributes → List ℕ → Caller → Moment → LogicalSet → LogicalAnswer
+symlink_done v fileid name set text caller moment s = on_held_name v fileid name moment (held_symlink set text caller) s
+
+abbrev pub mknod_done : ℕ → ℕ → List ℕ → Kind → SetAttributes → Caller → Moment → LogicalSet → LogicalAnswer
+mknod_done v fileid name kind set caller moment s = on_held_name v fileid name moment (held_mknod kind set caller) s
 
 abbrev pub remove_done : ℕ → ℕ → List ℕ → Moment → LogicalSet → LogicalAnswer
 remove_done v fileid name moment s = on_held_name v fileid name moment held_remove s
@@ -99,6 +137,14 @@ abbrev pub MkdirIsDone : Type 0
 MkdirIsDone = (v fileid : ℕ) (handle name : List ℕ) (node : Affinity) (set : SetAttributes) (caller : Caller) (moment : Moment) (s : LogicalSet)
     → IsDone v (mkdir_call handle node fileid name set caller moment) s (mkdir_done v fileid name set caller moment s)
 
+abbrev pub SymlinkIsDone : Type 0
+SymlinkIsDone = (v fileid : ℕ) (handle name : List ℕ) (node : Affinity) (set : SetAttributes) (text : List ℕ) (caller : Caller) (moment : Moment)
+    (s : LogicalSet) → IsDone v (symlink_call handle node fileid name set text caller moment) s (symlink_done v fileid name set text caller moment s)
+
+abbrev pub MknodIsDone : Type 0
+MknodIsDone = (v fileid : ℕ) (handle name : List ℕ) (node : Affinity) (kind : Kind) (set : SetAttributes) (caller : Caller) (moment : Moment)
+    (s : LogicalSet) → IsDone v (mknod_call handle node fileid name kind set caller moment) s (mknod_done v fileid name kind set caller moment s)
+
 abbrev pub RemoveIsDone : Type 0
 RemoveIsDone = (v fileid : ℕ) (handle name : List ℕ) (node : Affinity) (moment : Moment) (s : LogicalSet)
     → IsDone v (remove_call handle node fileid name moment) s (remove_done v fileid name moment s)
@@ -110,6 +156,10 @@ RmdirIsDone = (v fileid : ℕ) (handle name : List ℕ) (node : Affinity) (momen
 abbrev pub RenameIsDone : Type 0
 RenameIsDone = (v from_id to_id : ℕ) (from from_name to to_name : List ℕ) (node : Affinity) (moment : Moment) (s : LogicalSet)
     → IsDone v (rename_call from to node from_id from_name to_id to_name moment) s (rename_done v from_id from_name to_id to_name moment s)
+
+abbrev pub LinkIsDone : Type 0
+LinkIsDone = (v fileid directory_id : ℕ) (handle directory name : List ℕ) (node : Affinity) (moment : Moment) (s : LogicalSet)
+    → IsDone v (link_call handle directory node fileid directory_id name moment) s (link_done v fileid directory_id name moment s)
 
 -- ---- memory may run out where a node would be made, or would come under another name
 
@@ -128,11 +178,28 @@ MkdirMayStarve = (v fileid : ℕ) (handle name : List ℕ) (node : Affinity) (se
     → (mkdir_done v fileid name set caller moment s).answer ≡ MadeDone made object directory
     → MayStarve v (mkdir_call handle node fileid name set caller moment) s
 
--- where to's handle names that fileid there, and the names aren't of one entry
+abbrev pub SymlinkMayStarve : Type 0
+SymlinkMayStarve = (v fileid : ℕ) (handle name : List ℕ) (node : Affinity) (set : SetAttributes) (text : List ℕ) (caller : Caller) (moment : Moment)
+    (s : LogicalSet) (made : List ℕ) (object : Shown) (directory : Wcc)
+    → (symlink_done v fileid name set text caller moment s).answer ≡ MadeDone made object directory
+    → MayStarve v (symlink_call handle node fileid name set text caller moment) s
+
+abbrev pub MknodMayStarve : Type 0
+MknodMayStarve = (v fileid : ℕ) (handle name : List ℕ) (node : Affinity) (kind : Kind) (set : SetAttributes) (caller : Caller) (moment : Moment)
+    (s : LogicalSet) (made : List ℕ) (object : Shown) (directory : Wcc)
+    → (mknod_done v fileid name kind set caller moment s).answer ≡ MadeDone made object directory
+    → MayStarve v (mknod_call handle node fileid name kind set caller moment) s
+
+abbrev pub LinkMayStarve : Type 0
+LinkMayStarve = (v fileid directory_id : ℕ) (handle directory name : List ℕ) (node : Affinity) (moment : Moment) (s : LogicalSet)
+    (object : Shown) (change : Wcc) → (link_done v fileid directory_id name moment s).answer ≡ LinkDone object change
+    → MayStarve v (link_call handle directory node fileid directory_id name moment) s
+
+-- where to's handle names that fileid there, and the names aren't of one node
 abbrev pub RenameMayStarve : Type 0
 RenameMayStarve = (v from_id to_id volumes : ℕ) (from from_name to to_name : List ℕ) (node : Affinity) (moment : Moment) (s : LogicalSet)
     (from_change to_change : Wcc)
     → handle_of volumes to ≡ Some (record { volume = v; fileid = to_id })
-    → ((from_id == to_id) && same_name from_name to_name) ≡ false
+    → are_one (fileid_found (entries_of s.own from_id) from_name) (fileid_found (entries_of s.own to_id) to_name) ≡ false
     → (rename_done v from_id from_name to_id to_name moment s).answer ≡ RenameDone from_change to_change
     → MayStarve v (rename_call from to node from_id from_name to_id to_name moment) s

@@ -5,7 +5,7 @@ use Rattle.nfs_model.specs.Types.{Moment, Status, Wcc, Failed, Stale, NotDirecto
 use Rattle.nfs_model.specs.Names.{name_fault}
 use Rattle.nfs_model.specs.Shown.{before_of}
 use Rattle.nfs_model.specs.volume.Directories.{DirectoryValue, fileid_found}
-use Rattle.nfs_model.specs.volume.Inodes.{InodeKind, RegularFile, DirectoryKind, Inode}
+use Rattle.nfs_model.specs.volume.Inodes.{InodeKind, DirectoryKind, Inode}
 use Rattle.filer_state.specs.state.Lenses.{LogicalSet}
 use Rattle.filer_state.specs.state.Changes.{LogicalAnswer, shown_inode}
 use Rattle.filer_state.specs.names.Answers.{entries_of}
@@ -35,8 +35,8 @@ pub record HeldNaming : Type 0 where
 
 -- NOTDIR for a file; then what is wrong with the name
 abbrev pub on_kind : InodeKind → HeldNaming → (HeldNaming → LogicalAnswer) → LogicalAnswer
-on_kind (RegularFile size filled verifier) n run = fails NotDirectory n.set
 on_kind (DirectoryKind parent subdirectories) n run = unless_fault (name_fault n.name) n.set (run n)
+on_kind kind n run = fails NotDirectory n.set
 
 -- STALE where there is no node
 abbrev pub on_inode : Option Inode → LogicalSet → (Inode → LogicalAnswer) → LogicalAnswer

@@ -1,20 +1,18 @@
 -- RENAME by what is under Logical (RFC 1813 section 3.3.14).
-use Rattle.std.specs.Prelude.{ℕ, zero, suc, Bool, true, false, not, ◌&&◌, ◌||◌, ◌==◌, List, Option, Some, None, if◌then◌else◌}
+use Rattle.std.specs.Prelude.{ℕ, zero, suc, Bool, true, false, not, ◌||◌, ◌==◌, List, Option, Some, None, if◌then◌else◌}
 use Rattle.std.specs.FinMap.{get}
 use Rattle.nfs_model.specs.Types.{Moment, Status, Failed, RenameDone, Stale, NotDirectory, NoEntry, Invalid, Exists}
-use Rattle.nfs_model.specs.Names.{same_name, is_dots, name_fault}
+use Rattle.nfs_model.specs.Names.{is_dots, name_fault}
 use Rattle.nfs_model.specs.Serial.Rename.{Climb, PastIt, ToIt, TooFar, on_parent, climb_fault, is_empty_list}
-use Rattle.nfs_model.specs.volume.Inodes.{InodeKind, RegularFile, DirectoryKind, Inode}
+use Rattle.nfs_model.specs.volume.Inodes.{InodeKind, DirectoryKind, Inode}
 use Rattle.filer_state.specs.state.Tree.{file_touch}
 use Rattle.filer_state.specs.state.Names.{InodeMap, parent_directory}
 use Rattle.filer_state.specs.state.Lenses.{LogicalSet}
 use Rattle.filer_state.specs.state.Changes.{LogicalAnswer}
-use Rattle.filer_state.specs.nodes.Dropping.{node_dropped}
-use Rattle.filer_state.specs.nodes.Sizing.{file_sized}
 use Rattle.filer_state.specs.nodes.Moving.{Naming, entry_taken, node_hung_up}
 use Rattle.filer_state.specs.names.Answers.{entries_of}
 use Rattle.filer_state.specs.changes.Named.{HeldNaming, directory_change, HeldNode, node_under}
-use Rattle.filer_state.specs.changes.Dropping.{dropping_of, emptying_of, child_emptied}
+use Rattle.filer_state.specs.changes.Dropping.{name_gone}
 
 -- ---- failures
 
@@ -34,9 +32,10 @@ pub record HeldRenaming : Type 0 where
   pub from : HeldNaming
   pub to : HeldNaming
 
--- both names are of one entry
-abbrev pub is_one_entry : HeldRenaming → Bool
-is_one_entry r = (r.from.fileid == r.to.fileid) && same_name r.from.name r.to.name
+-- a node is that of the other name
+abbrev pub is_held : HeldNode → Option HeldNode → Bool
+is_held child None = false
+is_held child (Some target) = target.fileid == child.fileid
 
 -- ---- a directory below itself
 
@@ -54,35 +53,29 @@ climbs (suc n) inodes target fileid =
 
 -- what is met above the directory into which a node comes; nothing is asked where it stays in its directory, and a file is above nothing
 abbrev pub held_above : HeldRenaming → ℕ → InodeKind → Climb
-held_above r fileid (RegularFile size filled verifier) = PastIt
 held_above r fileid (DirectoryKind parent subdirectories) =
     if r.from.fileid == r.to.fileid then PastIt
     else climbs r.from.set.own.most_steps r.from.set.own.inodes.inodes fileid r.to.fileid
+held_above r fileid kind = PastIt
 
 -- ---- the target
 
--- a node may take another's place: both are files, or both are directories and the other is empty
+-- a node may take another's place: both aren't directories, or both are and the other is empty
 abbrev pub may_replace : LogicalSet → InodeKind → ℕ → InodeKind → Bool
-may_replace s (RegularFile size filled verifier) target (RegularFile size' filled' verifier') = true
-may_replace s (RegularFile size filled verifier) target (DirectoryKind parent subdirectories) = false
-may_replace s (DirectoryKind parent subdirectories) target (RegularFile size filled verifier) = false
 may_replace s (DirectoryKind parent subdirectories) target (DirectoryKind parent' subdirectories') = is_empty_list (entries_of s.own target).list
+may_replace s (DirectoryKind parent subdirectories) target kind = false
+may_replace s moved target (DirectoryKind parent subdirectories) = false
+may_replace s moved target kind = true
 
 -- the target may go, if there is one
 abbrev pub target_may_go : LogicalSet → HeldNode → Option HeldNode → Bool
 target_may_go s moved None = true
 target_may_go s moved (Some target) = may_replace s moved.inode.kind target.fileid target.inode.kind
 
--- a file goes as by REMOVE, a directory as by RMDIR
-abbrev pub target_dropped : HeldNaming → HeldNode → InodeKind → LogicalSet
-target_dropped to target (RegularFile size filled verifier) =
-    node_dropped (dropping_of to (child_emptied target to.set)) (file_sized (emptying_of target) to.set)
-target_dropped to target (DirectoryKind parent subdirectories) = node_dropped (dropping_of to target) to.set
-
--- the set without the target, if there is one
+-- the set without the name of the target, if there is one: it goes as by REMOVE, a directory as by RMDIR
 abbrev pub target_gone : HeldNaming → Option HeldNode → LogicalSet
 target_gone to None = to.set
-target_gone to (Some target) = target_dropped to target target.inode.kind
+target_gone to (Some target) = (name_gone to target).set
 
 -- ---- the steps
 
@@ -104,6 +97,7 @@ moving_of n child s = record {
   name = n.name;
   fileid = child.fileid;
   node = child.inode;
+  names = child.inode.names;
   moment = n.moment;
 }
 
@@ -128,12 +122,12 @@ held_renamed r s = record {
   set = s;
 }
 
--- NOENT; the same entry is OK, and nothing changes; INVAL for a directory below itself, NAMETOOLONG for one that comes too deep; EXIST
+-- NOENT; two names of one node are OK, and nothing changes; INVAL for a directory below itself, NAMETOOLONG for one that comes too deep; EXIST
 -- for a target that may not go
 abbrev pub rename_by : HeldRenaming → Option HeldNode → Option HeldNode → LogicalAnswer
 rename_by r None target = fails_both NoEntry r.from.set
 rename_by r (Some child) target =
-    if is_one_entry r then held_renamed r r.from.set
+    if is_held child target then held_renamed r r.from.set
     else unless_both (climb_fault (held_above r child.fileid child.inode.kind)) r.from.set
     (if not (target_may_go r.from.set child target) then fails_both Exists r.from.set
     else held_renamed r (set_renamed r child target))
@@ -148,8 +142,8 @@ held_rename r =
 
 -- NOTDIR for a file
 abbrev pub if_directory : InodeKind → LogicalSet → LogicalAnswer → LogicalAnswer
-if_directory (RegularFile size filled verifier) s done = fails_both NotDirectory s
 if_directory (DirectoryKind parent subdirectories) s done = done
+if_directory kind s done = fails_both NotDirectory s
 
 -- STALE where there is no node, NOTDIR for a file
 abbrev pub on_directory_inode : Option Inode → LogicalSet → (Inode → LogicalAnswer) → LogicalAnswer

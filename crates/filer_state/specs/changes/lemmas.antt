@@ -7,6 +7,8 @@ pub mod Creating
 pub mod Existing
 pub mod Makes
 pub mod Gone
+pub mod Emptied
+pub mod NamesGone
 pub mod Remove
 pub mod Rmdir
 pub mod Climbing
@@ -16,3 +18,4 @@ pub mod Targets
 pub mod Replacing
 pub mod Told
 pub mod Renames
+pub mod Linking

@@ -19,6 +19,7 @@ use Rattle.nfs_model.specs.volume.Directories.{DirectoryValue}
 use Rattle.filer_state.specs.state.Parcels.{FilerParcel}
 use Rattle.filer_state.specs.state.Contents.{VolumeContents, FilerContents, volume_at, filer_contents}
 use Rattle.filer_state.specs.state.Tree.{ranges_used, volume_of, tree}
+use Rattle.filer_state.specs.state.Names.{directories_listed}
 use Rattle.filer_state.specs.state.Partition.{parts_of, all_parts, times_in_hand}
 use Rattle.filer_state.specs.state.Sound.{IsSound, AllSound, IsFiler}
 use Rattle.filer_state.specs.state.Jobs.{InnerCall, Job, Serve, Inner, JobReply, takes, gives, inner_node, inner_volume}
@@ -45,10 +46,11 @@ abbrev pub UsedFits : Type 0
 UsedFits = (p : VolumeContents) (hands : List Hand) (made : ℕ) → IsSound p hands made
     → p.logical.inodes.used ≤ p.logical.dead.range_blocks * ranges_used p.ranges
 
--- no directory has more entries than there are inodes
-abbrev pub EntriesFit : Type 0
-EntriesFit = (p : VolumeContents) (hands : List Hand) (made : ℕ) → IsSound p hands made
-    → (fileid : ℕ) (d : DirectoryValue) → get p.logical.directories fileid ≡ Some d → length d.list ≤ len p.logical.inodes.inodes
+-- no directory has more subdirectories than there are inodes
+abbrev pub SubdirectoriesFit : Type 0
+SubdirectoriesFit = (p : VolumeContents) (hands : List Hand) (made : ℕ) → IsSound p hands made
+    → (fileid : ℕ) (d : DirectoryValue) → get p.logical.directories fileid ≡ Some d
+    → directories_listed p.logical.inodes.inodes d.list ≤ len p.logical.inodes.inodes
 
 module _ (P : Type 0) where
   -- ---- the beginning

@@ -10,6 +10,7 @@ pub mod Alike
 pub mod Steps
 pub mod Served
 pub mod Kinds
+pub mod InodeKinds
 pub mod Mapped
 pub mod Counted
 pub mod Limits

@@ -1,11 +1,12 @@
--- What LOOKUP, READDIR, READDIRPLUS and COMMIT answer, and ACCESS, FSINFO and PATHCONF, by what is under Logical (RFC 1813 sections
--- 3.3.3, 3.3.16, 3.3.17, 3.3.21, 3.3.4, 3.3.19 and 3.3.20), and MNT below a root (RFC 1813 appendix I, section 5.2.1).
+-- What LOOKUP, READLINK, READDIR, READDIRPLUS and COMMIT answer, and ACCESS, FSINFO and PATHCONF, by what is under Logical (RFC 1813
+-- sections 3.3.3, 3.3.5, 3.3.16, 3.3.17, 3.3.21, 3.3.4, 3.3.19 and 3.3.20), and MNT below a root (RFC 1813 appendix I, section 5.2.1).
 use Rattle.std.specs.Prelude.{ℕ, Bool, false, min, not, ◌&&◌, ◌==◌, List, [], ◌∷◌, replicate, Option, Some, None, if◌then◌else◌}
 use Rattle.std.specs.Option.{option_map}
 use Rattle.std.specs.FinMap.{get}
 use Rattle.nfs_model.specs.Types.{Caller, Status, Shown, Listed, ListedPlus, Answer, LookupDone, AccessDone, FsinfoDone, PathconfDone}
 use Rattle.nfs_model.specs.Types as types
-use Rattle.nfs_model.specs.Types.{CommitDone, MountDone, Failed, Stale, NotDirectory, NoEntry, BadCookie, Invalid}
+use Rattle.nfs_model.specs.Types.{ReadlinkDone, CommitDone, MountDone, Failed, Stale, NotDirectory, NoEntry, BadCookie, Invalid}
+use Rattle.nfs_model.specs.Types.{SpecialType, SymbolicLink, Fifo, Socket, BlockDevice, CharacterDevice}
 use Rattle.nfs_model.specs.Server.{DirectoryNode, handle_bytes, most_bytes}
 use Rattle.nfs_model.specs.Shown.{before_of}
 use Rattle.nfs_model.specs.Names.{same_name, dot, dot_dot, name_fault}
@@ -16,9 +17,9 @@ use Rattle.nfs_model.specs.Serial.MountBelow.{part_fault}
 use Rattle.nfs_model.specs.Serial.Rights.{may_search, protected}
 use Rattle.nfs_model.specs.Serial.Permission.{needs, refusal_of}
 use Rattle.nfs_model.specs.volume.Directories.{DirectoryValue, fileid_found}
-use Rattle.nfs_model.specs.volume.Inodes.{InodeKind, RegularFile, DirectoryKind, Inode}
+use Rattle.nfs_model.specs.volume.Inodes.{InodeKind, RegularFile, DirectoryKind, SpecialFile, Inode}
 use Rattle.nfs_model.specs.volume.Logical.{LogicalValue}
-use Rattle.filer_state.specs.state.Tree.{file_touch, directory_or_empty}
+use Rattle.filer_state.specs.state.Tree.{file_touch, directory_or_empty, text_or_empty}
 use Rattle.filer_state.specs.state.Names.{parent_in}
 use Rattle.filer_state.specs.state.Lenses.{LogicalSet}
 use Rattle.filer_state.specs.state.Calls.{answer_of}
@@ -90,7 +91,7 @@ readdir_answer v fileid cookie verifier count s = on_directory_inode (get s.own.
 abbrev pub file_committed : Shown → List ℕ → InodeKind → Answer
 file_committed shown verifier (RegularFile size filled of_creation) =
     CommitDone (record { before = before_of shown; after = shown }) verifier
-file_committed shown verifier (DirectoryKind parent subdirectories) = Failed Invalid 2
+file_committed shown verifier kind = Failed Invalid 2
 
 abbrev pub inode_committed : ℕ → ℕ → LogicalSet → Option Inode → Answer
 inode_committed v fileid s None = Failed Stale 2
@@ -99,6 +100,29 @@ inode_committed v fileid s (Some inode) =
 
 abbrev pub commit_answer : ℕ → ℕ → LogicalSet → Answer
 commit_answer v fileid s = inode_committed v fileid s (get s.own.inodes.inodes fileid)
+
+-- ---- READLINK
+
+-- the attributes of a symbolic link and its text; INVAL for what else is special
+abbrev pub special_read : Shown → List ℕ → SpecialType → Answer
+special_read shown text SymbolicLink = ReadlinkDone shown text
+special_read shown text Fifo = Failed Invalid 1
+special_read shown text Socket = Failed Invalid 1
+special_read shown text (BlockDevice device) = Failed Invalid 1
+special_read shown text (CharacterDevice device) = Failed Invalid 1
+
+-- and INVAL for a file and a directory
+abbrev pub link_read : Shown → List ℕ → InodeKind → Answer
+link_read shown text (SpecialFile special size) = special_read shown text special
+link_read shown text kind = Failed Invalid 1
+
+abbrev pub inode_read : ℕ → ℕ → LogicalSet → Option Inode → Answer
+inode_read v fileid s None = Failed Stale 1
+inode_read v fileid s (Some inode) =
+    link_read (shown_inode v fileid inode None) (text_or_empty (get s.own.texts fileid)) inode.kind
+
+abbrev pub readlink_answer : ℕ → ℕ → LogicalSet → Answer
+readlink_answer v fileid s = inode_read v fileid s (get s.own.inodes.inodes fileid)
 
 -- ---- ACCESS, FSINFO and PATHCONF
 
@@ -143,8 +167,8 @@ readdirplus_answer v fileid cookie verifier names_count count caller s = on_dire
 
 -- an answer where there is a directory; STALE, or NOTDIR for a file
 abbrev pub by_directory_kind : InodeKind → Answer → Answer
-by_directory_kind (RegularFile size filled of_creation) answer = Failed NotDirectory 0
 by_directory_kind (DirectoryKind parent subdirectories) answer = answer
+by_directory_kind kind answer = Failed NotDirectory 0
 
 abbrev pub in_directory : Option Inode → Answer → Answer
 in_directory None answer = Failed Stale 0

@@ -1,11 +1,12 @@
--- What calls on names come to, by what is under Logical (RFC 1813 sections 3.3.3, 3.3.4, 3.3.16, 3.3.17, 3.3.19, 3.3.20 and 3.3.21; MNT
+-- What calls on names come to, by what is under Logical (RFC 1813 sections 3.3.3, 3.3.4, 3.3.5, 3.3.16, 3.3.17, 3.3.19, 3.3.20 and 3.3.21; MNT
 -- below a root, its appendix I).
 use Rattle.std.specs.Prelude.{◌≡◌, ℕ, Bool, false, List, []}
-use Rattle.nfs_model.specs.Types.{Moment, Caller, Listed, ListedPlus, Shown, Lookup, CheckAccess, Readdir, Readdirplus, Fsinfo, Pathconf, Commit}
-use Rattle.nfs_model.specs.Types.{MountBelow, ReaddirDone, ReaddirplusDone, Success}
+use Rattle.nfs_model.specs.Types.{Moment, Caller, Listed, ListedPlus, Shown, Lookup, CheckAccess, Readlink, Readdir, Readdirplus, Fsinfo, Pathconf}
+use Rattle.nfs_model.specs.Types.{Commit, MountBelow, ReadlinkDone, ReaddirDone, ReaddirplusDone, Success}
 use Rattle.nfs_model.specs.Tree.{Affinity}
 use Rattle.nfs_model.specs.Locate.{on_name}
 use Rattle.nfs_model.specs.Serial.Lookup.{lookup}
+use Rattle.nfs_model.specs.Serial.Readlink.{readlink}
 use Rattle.nfs_model.specs.Serial.Readdir.{readdir}
 use Rattle.nfs_model.specs.Serial.Readdirplus.{readdirplus}
 use Rattle.nfs_model.specs.Serial.Access.{access}
@@ -20,11 +21,14 @@ use Rattle.filer_state.specs.state.Promises.{RightOnVolume}
 use Rattle.nfs_model.specs.Work.{Starved}
 use Rattle.filer_state.specs.state.Calls.{VolumeCall, ServesOn, WorksOn, unasked}
 use Rattle.filer_state.specs.names.Answers.{lookup_answer, readdir_answer, readdirplus_answer, commit_answer, access_answer, fsinfo_answer, pathconf_answer}
-use Rattle.filer_state.specs.names.Answers.{mount_answer}
+use Rattle.filer_state.specs.names.Answers.{mount_answer, readlink_answer}
 
 abbrev pub lookup_call : List ℕ → Affinity → ℕ → List ℕ → Moment → VolumeCall
 lookup_call handle node fileid name moment =
     record { call = Lookup handle name; caller = unasked; node = node; fileid = fileid; run = λ volume. on_name name moment lookup volume fileid }
+
+abbrev pub readlink_call : List ℕ → Affinity → ℕ → VolumeCall
+readlink_call handle node fileid = record { call = Readlink handle; caller = unasked; node = node; fileid = fileid; run = λ volume. readlink volume fileid }
 
 abbrev pub readdir_call : List ℕ → Affinity → ℕ → ℕ → List ℕ → ℕ → VolumeCall
 readdir_call handle node fileid cookie verifier count = record {
@@ -66,6 +70,17 @@ abbrev pub LookupIsRight : Type 0
 LookupIsRight = (v fileid : ℕ) (handle name : List ℕ) (node : Affinity) (moment : Moment) (set : LogicalSet)
     → RightOnVolume v logical_lens (ServesOn (lookup_call handle node fileid name moment) false) [] [] set
     (Replied (Success (lookup_answer v fileid name set))) set
+
+abbrev pub ReadlinkIsRight : Type 0
+ReadlinkIsRight = (v fileid : ℕ) (handle : List ℕ) (node : Affinity) (set : LogicalSet)
+    → RightOnVolume v logical_lens (ServesOn (readlink_call handle node fileid) false) [] [] set
+    (Replied (Success (readlink_answer v fileid set))) set
+
+-- where it would tell a text, memory may run out
+abbrev pub ReadlinkMayStarve : Type 0
+ReadlinkMayStarve = (v fileid : ℕ) (handle : List ℕ) (node : Affinity) (set : LogicalSet) (object : Shown) (text : List ℕ)
+    → readlink_answer v fileid set ≡ ReadlinkDone object text
+    → RightOnVolume v logical_lens (WorksOn (readlink_call handle node fileid)) [] [] set Starved set
 
 abbrev pub ReaddirIsRight : Type 0
 ReaddirIsRight = (v fileid : ℕ) (handle : List ℕ) (node : Affinity) (cookie : ℕ) (verifier : List ℕ) (count : ℕ) (set : LogicalSet)

@@ -5,4 +5,5 @@ pub mod Lookup
 pub mod Listing
 pub mod ListingPlus
 pub mod Objects
+pub mod Readlink
 pub mod Mount

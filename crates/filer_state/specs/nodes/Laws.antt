@@ -1,6 +1,7 @@
--- What a node made under a name, and a node dropped with its name, come to on a sound volume (RFC 1813 sections 3.3.8, 3.3.9, 3.3.12
--- and 3.3.13).
-use Rattle.std.specs.Prelude.{◌≡◌, ℕ, ◌+◌, ◌-◌, ◌*◌, ◌<◌, ◌≤◌, ◌==◌, nat_lt, false, List, [], replicate, Option, Some, None}
+-- What a node comes to on a sound volume that is made under a name, dropped with its last name, moved, or gets or loses one of its
+-- names (RFC 1813 sections 3.3.8 to 3.3.15).
+use Rattle.std.specs.Prelude.{◌≡◌, ℕ, ◌+◌, ◌-◌, ◌*◌, ◌<◌, ◌≤◌, ◌==◌, nat_lt, false, List, [], length, replicate, Option, Some, None, IfSome}
+use Rattle.std.specs.Option.{option_map}
 use Rattle.std.specs.FinMap.{get, len, insert, remove}
 use Rattle.std.specs.FinSet as sets
 use Rattle.std.specs.FinSet.{retain}
@@ -11,18 +12,19 @@ use Rattle.nfs_model.specs.Moves.{Emptied}
 use Rattle.nfs_model.specs.Names.{with_name, dropped_name}
 use Rattle.nfs_model.specs.Parts.{Hand}
 use Rattle.depot_rule.specs.Sums.{total}
-use Rattle.nfs_model.specs.volume.Directories.{DirectoryValue, found}
-use Rattle.nfs_model.specs.volume.Inodes.{InodeKind, RegularFile, DirectoryKind, Inode, InodesValue, inode_of}
+use Rattle.nfs_model.specs.volume.Directories.{DirectoryValue, empty_directory, found}
+use Rattle.nfs_model.specs.volume.Inodes.{InodeKind, RegularFile, Inode, InodesValue, filled_blocks, inode_of}
 use Rattle.filer_state.specs.state.Contents.{VolumeContents}
-use Rattle.filer_state.specs.state.Tree.{file_bytes, file_filled, file_touch, node_of, volume_of}
-use Rattle.filer_state.specs.state.Names.{DirectoryMap, root, directory_above, parent_in}
+use Rattle.filer_state.specs.state.Tree.{file_bytes, file_filled, file_touch, text_or_empty, node_with, node_of, volume_of}
+use Rattle.filer_state.specs.state.Names.{DirectoryMap, root, directory_above, size_in, parent_in, subdirectories_in, text_length_in}
 use Rattle.filer_state.specs.state.Partition.{parts_of, times_in_hand}
 use Rattle.filer_state.specs.state.Sound.{IsSound}
 use Rattle.filer_state.specs.state.Lenses.{LogicalSet, logical_lens}
 use Rattle.filer_state.specs.nodes.Making.{Making, node_made}
 use Rattle.filer_state.specs.nodes.Dropping.{Dropping, node_dropped}
 use Rattle.filer_state.specs.nodes.Sizing.{Sizing, file_sized}
-use Rattle.filer_state.specs.nodes.Moving.{Naming, inodes_untied, entries_untied, entry_taken, node_hung_up}
+use Rattle.filer_state.specs.nodes.Moving.{Naming, inodes_untied, entries_untied, entry_taken, node_hung_up, name_dropped}
+use Rattle.nfs_model.specs.Serial.Links.{with_link, without_link}
 use Rattle.nfs_model.specs.Serial.Rename.{moved_node}
 use Rattle.nfs_model.specs.volume.Maps.{map_values}
 use Rattle.std.specs.FinMap.{FinMap}
@@ -39,9 +41,11 @@ seen_directory inode d parent = record { attributes = inode.attributes; parent =
 -- ---- made
 
 -- a new file has no block, and is no larger than the largest; a new directory has the other as its parent, and no subdirectory
-abbrev pub IsNewIn : ℕ → ℕ → InodeKind → Type 0
-IsNewIn directory largest (RegularFile size filled verifier) = (filled ≡ 0) × (size ≤ largest)
-IsNewIn directory largest (DirectoryKind parent subdirectories) = (parent ≡ directory) × (subdirectories ≡ 0)
+pub record IsNewIn (directory largest : ℕ) (kind : InodeKind) : Type 0 where
+  pub blocks : filled_blocks kind ≡ 0
+  pub size : IfSome (size_in kind) (λ size. size ≤ largest)
+  pub parent : IfSome (parent_in kind) (λ parent. parent ≡ directory)
+  pub alone : IfSome (subdirectories_in kind) (λ subdirectories. subdirectories ≡ 0)
 
 -- what has to be so of a node to be made: the directory is there, the name isn't, and an inode is left
 pub record MayBeMade (m : Making) (p : VolumeContents) : Type 0 where
@@ -49,16 +53,14 @@ pub record MayBeMade (m : Making) (p : VolumeContents) : Type 0 where
   pub entered : get p.logical.directories m.directory ≡ Some m.entries
   pub absent : found m.entries m.name ≡ None
   pub few : len p.logical.inodes.inodes < p.logical.most_inodes
+  pub one : m.made.names ≡ 1
+  pub text : option_map length m.text ≡ text_length_in m.made.kind
   pub is_new : IsNewIn m.directory p.logical.largest m.made.kind
 
--- a new node as it is seen: a file of zeros without blocks, or a directory without entries
-abbrev pub node_by_kind : Attributes → InodeKind → Node
-node_by_kind a (RegularFile size filled verifier) =
-    File (record { attributes = a; bytes = replicate size 0; filled = sets.empty; touch = None; verifier = verifier })
-node_by_kind a (DirectoryKind parent subdirectories) = Directory (record { attributes = a; parent = parent; next = 3; list = [] })
-
-abbrev pub new_node : Inode → Node
-new_node inode = node_by_kind inode.attributes inode.kind
+-- a new node as it is seen: a file of zeros without blocks, a directory without entries, or a special one with a text
+abbrev pub new_node : Inode → Option (List ℕ) → Node
+new_node inode text =
+    node_with (λ size. replicate size 0) sets.empty None empty_directory (text_or_empty text) inode.attributes inode.names inode.kind
 
 -- all stays sound, and the volume that is seen has the node under the next fileid, and the entry
 abbrev pub NodesAreMade : Type 0
@@ -67,7 +69,7 @@ NodesAreMade = (p : VolumeContents) (m : Making) (hands hands' : List Hand) (mad
     → IsSound (logical_lens.put (node_made m (logical_lens.of p)) p) hands' (made + 1)
     × (volume_of (logical_lens.put (node_made m (logical_lens.of p)) p) ≡ record (volume_of p) {
       next = p.logical.inodes.next + 1;
-      nodes = insert (insert (volume_of p).nodes p.logical.inodes.next (new_node m.made)) m.directory
+      nodes = insert (insert (volume_of p).nodes p.logical.inodes.next (new_node m.made m.text)) m.directory
           (Directory (with_name (seen_directory m.inode m.entries parent) m.name p.logical.inodes.next m.moment));
     })
 
@@ -75,10 +77,9 @@ NodesAreMade = (p : VolumeContents) (m : Making) (hands hands' : List Hand) (mad
 
 -- a file of no bytes and no blocks, or a directory
 abbrev pub IsEmptyKind : InodeKind → Type 0
-IsEmptyKind (RegularFile size filled verifier) = (size ≡ 0) × (filled ≡ 0)
-IsEmptyKind (DirectoryKind parent subdirectories) = Unit {0}
+IsEmptyKind kind = IfSome (size_in kind) (λ size. size ≡ 0) × (filled_blocks kind ≡ 0)
 
--- what has to be so of a node to be dropped: it stands under the name, and has neither bytes nor entries
+-- what has to be so of a node to be dropped: it stands under the name, which is its last, and has neither bytes nor entries
 pub record LosesName (m : Dropping) (old : InodesValue) (directories : DirectoryMap) : Type 0 where
   pub there : inode_of old m.directory ≡ Some m.inode
   pub entered : get directories m.directory ≡ Some m.entries
@@ -86,6 +87,7 @@ pub record LosesName (m : Dropping) (old : InodesValue) (directories : Directory
   pub found_there : found m.entries m.name ≡ Some entry
   pub is : entry.fileid ≡ m.fileid
   pub node : inode_of old m.fileid ≡ Some m.dropped
+  pub last : m.dropped.names ≤ 1
   pub kind : IsEmptyKind m.dropped.kind
   pub empty : (d : DirectoryValue) → get directories m.fileid ≡ Some d → d.list ≡ []
 
@@ -110,6 +112,7 @@ file_seen p m old_size verifier = record {
   filled = file_filled p.stripes m.fileid;
   touch = file_touch p.stripes m.fileid;
   verifier = verifier;
+  links = m.inode.names;
 }
 
 -- a file as it is seen, of a size set: it is settled, cut or grown, and has these attributes
@@ -139,7 +142,7 @@ FilesAreSized = (p : VolumeContents) (m : Sizing) (hands hands' : List Hand) (ma
 
 -- the nodes of what is under Logical
 abbrev pub nodes_of : LogicalSet → FinMap nat_cmp Node
-nodes_of set = map_values (node_of set.stripes set.own.directories) set.own.inodes.inodes
+nodes_of set = map_values (node_of set.stripes set.own.directories set.own.texts) set.own.inodes.inodes
 
 -- a node stands under a name
 pub record StandsUnder (m : Naming) (old : InodesValue) (directories : DirectoryMap) : Type 0 where
@@ -169,11 +172,62 @@ abbrev pub NodesAreMoved : Type 0
 NodesAreMoved = (p : VolumeContents) (from to : Naming) (hands hands' : List Hand) (made from_parent to_parent : ℕ)
     → StandsUnder from p.logical.inodes p.logical.directories
     → MayHang to (inodes_untied from p.logical.inodes) (entries_untied from p.logical.directories)
-    → to.fileid ≡ from.fileid → parent_in from.inode.kind ≡ Some from_parent → parent_in to.inode.kind ≡ Some to_parent
+    → to.fileid ≡ from.fileid → to.names ≡ to.node.names → parent_in from.inode.kind ≡ Some from_parent → parent_in to.inode.kind ≡ Some to_parent
     → IsSound p hands made → WeighAlike p.number hands hands'
     → IsSound (moved_in from to p) hands' (made + 1)
     × (nodes_of (logical_lens.of (moved_in from to p))
     ≡ insert (insert (insert (volume_of p).nodes from.directory
     (Directory (dropped_name (seen_directory from.inode from.entries from_parent) from.name from.moment)))
     to.directory (Directory (with_name (seen_directory to.inode to.entries to_parent) to.name to.fileid to.moment)))
-    to.fileid (moved_node to.directory to.moment (node_of p.stripes (entries_untied from p.logical.directories) to.fileid to.node)))
+    to.fileid (moved_node to.directory to.moment (node_of p.stripes (entries_untied from p.logical.directories) p.logical.texts to.fileid to.node)))
+
+-- ---- one more name
+
+-- a node that isn't a directory gets a name that isn't there
+pub record MayBeLinked (m : Naming) (old : InodesValue) (directories : DirectoryMap) : Type 0 where
+  pub there : inode_of old m.directory ≡ Some m.inode
+  pub entered : get directories m.directory ≡ Some m.entries
+  pub absent : found m.entries m.name ≡ None
+  pub node : inode_of old m.fileid ≡ Some m.node
+  pub no_directory : parent_in m.node.kind ≡ None
+  pub one_more : m.names ≡ m.node.names + 1
+
+-- the volume after it
+abbrev pub linked_in : Naming → VolumeContents → VolumeContents
+linked_in m p = logical_lens.put (node_hung_up m (file_touch p.stripes m.fileid) (logical_lens.of p)) p
+
+-- all stays sound, and the volume that is seen has the node with one more name, and the entry
+abbrev pub NodesAreLinked : Type 0
+NodesAreLinked = (p : VolumeContents) (m : Naming) (hands hands' : List Hand) (made parent : ℕ)
+    → MayBeLinked m p.logical.inodes p.logical.directories → IsSound p hands made → WeighAlike p.number hands hands'
+    → parent_in m.inode.kind ≡ Some parent
+    → IsSound (linked_in m p) hands' (made + 1)
+    × (volume_of (linked_in m p) ≡ record (volume_of p) {
+      nodes = insert (insert (volume_of p).nodes m.fileid
+          (with_link m.moment (node_of p.stripes p.logical.directories p.logical.texts m.fileid m.node))) m.directory
+          (Directory (with_name (seen_directory m.inode m.entries parent) m.name m.fileid m.moment));
+    })
+
+-- ---- one name less
+
+-- a node stands under a name, and has another
+pub record KeepsAName (m : Naming) (old : InodesValue) (directories : DirectoryMap) : Type 0 where
+  pub stands : StandsUnder m old directories
+  pub more : 1 < m.node.names
+  pub one_less : m.names ≡ m.node.names - 1
+
+-- the volume after it
+abbrev pub unlinked_in : Naming → VolumeContents → VolumeContents
+unlinked_in m p = logical_lens.put (name_dropped m (file_touch p.stripes m.fileid) (logical_lens.of p)) p
+
+-- all stays sound, with no entry more needed, and the volume that is seen has the node with one name less, and not the entry
+abbrev pub NodesAreUnlinked : Type 0
+NodesAreUnlinked = (p : VolumeContents) (m : Naming) (node : Node) (hands hands' : List Hand) (made now parent : ℕ)
+    → made ≤ now → KeepsAName m p.logical.inodes p.logical.directories → IsSound p hands made → WeighAlike p.number hands hands'
+    → parent_in m.inode.kind ≡ Some parent
+    → without_link m.moment (node_of p.stripes p.logical.directories p.logical.texts m.fileid m.node) ≡ Some node
+    → IsSound (unlinked_in m p) hands' now
+    × (volume_of (unlinked_in m p) ≡ record (volume_of p) {
+      nodes = insert (insert (volume_of p).nodes m.fileid node) m.directory
+          (Directory (dropped_name (seen_directory m.inode m.entries parent) m.name m.moment));
+    })

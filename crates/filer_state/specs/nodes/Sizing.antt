@@ -3,9 +3,10 @@ use Rattle.std.specs.Prelude.{ℕ, ◌-◌, List, [], ◌∷◌, ◌++◌, map, 
 use Rattle.nfs_model.specs.Types.{Ownership}
 use Rattle.nfs_model.specs.Server.{Attributes}
 use Rattle.nfs_model.specs.Serial.Rights.{ownership_of}
-use Rattle.nfs_model.specs.volume.Inodes.{InodeKind, RegularFile, DirectoryKind, Inode, inode_set}
+use Rattle.nfs_model.specs.volume.Inodes.{InodeKind, Inode, inode_set}
 use Rattle.nfs_model.specs.volume.Stripes.{StripeValue, touch_taken, file_card_set, cut, numbers_freed}
 use Rattle.nfs_model.specs.volume.Ranges.{dead_marked}
+use Rattle.filer_state.specs.state.Kinds.{file_changed}
 use Rattle.filer_state.specs.state.Lenses.{LogicalSet}
 
 -- a file that gets a size
@@ -26,12 +27,11 @@ all_freed fileid size (s ∷ stripes) = numbers_freed fileid size s ++ all_freed
 
 -- a file of a size, with this many blocks less
 abbrev pub kind_sized : ℕ → ℕ → InodeKind → InodeKind
-kind_sized size fewer (RegularFile old filled verifier) = RegularFile size (filled - fewer) verifier
-kind_sized size fewer (DirectoryKind parent subdirectories) = DirectoryKind parent subdirectories
+kind_sized size fewer kind = file_changed (λ old. size) (λ filled. filled - fewer) kind
 
 -- the inode after it
 abbrev pub inode_sized : Sizing → ℕ → Inode
-inode_sized m fewer = record { attributes = m.attributes; kind = kind_sized m.size fewer m.inode.kind }
+inode_sized m fewer = record m.inode { attributes = m.attributes; kind = kind_sized m.size fewer m.inode.kind }
 
 -- what is under Logical after it: the blocks that leave the file are dead
 abbrev pub file_sized : Sizing → LogicalSet → LogicalSet

@@ -1,6 +1,5 @@
 -- Lemmas alone, which no reader has to believe: laws of nodes made and dropped, for proofs above.
 pub mod Summed
-pub mod Listing
 pub mod Others
 pub mod Named
 pub mod Made
@@ -16,3 +15,5 @@ pub mod Untied
 pub mod Hung
 pub mod Moved
 pub mod MovedNodes
+pub mod Linked
+pub mod Counted

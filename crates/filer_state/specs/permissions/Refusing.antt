@@ -1,13 +1,14 @@
 -- Which calls are refused by the owner, the groups and the mode of objects, by what is under Logical (RFC 1813
 -- section 2.5).
-use Rattle.std.specs.Prelude.{ℕ, Bool, ◌||◌, ◌==◌, List, Option, Some, None, is_none, if◌then◌else◌}
+use Rattle.std.specs.Prelude.{ℕ, Bool, false, not, ◌||◌, ◌==◌, List, Option, Some, None, is_none, if◌then◌else◌}
 use Rattle.std.specs.Option.{option_map}
 use Rattle.std.specs.FinMap.{get}
 use Rattle.nfs_model.specs.Types as types
 use Rattle.nfs_model.specs.Types.{Credential, Caller, Status, CreateMode, Unchecked, Kind, Regular}
-use Rattle.nfs_model.specs.Types.{Call, Setattr, Lookup, Read, Write, Create, Mkdir, Remove, Rmdir, Rename, Readdir, Readdirplus, Commit}
+use Rattle.nfs_model.specs.Types.{Call, Setattr, Lookup, Read, Write, Create, Mkdir, Symlink, Mknod, Remove, Rmdir, Rename, Link, Readdir}
+use Rattle.nfs_model.specs.Types.{Readdirplus, Commit}
 use Rattle.nfs_model.specs.Serial.Rights.{Protection, may_read, may_write, may_search, may_list, may_change, may_drop, rights_of}
-use Rattle.nfs_model.specs.Serial.Permission.{needs, then_asks, set_refusal, is_no_child, is_one_entry, is_change, write_rights, refusal_of}
+use Rattle.nfs_model.specs.Serial.Permission.{needs, reserved, then_asks, set_refusal, is_no_child, is_device, is_change, write_rights, refusal_of}
 use Rattle.nfs_model.specs.volume.Directories.{fileid_found}
 use Rattle.nfs_model.specs.volume.Inodes.{InodeKind, RegularFile, DirectoryKind, Inode}
 use Rattle.filer_state.specs.state.Protected.{protection_of}
@@ -23,8 +24,8 @@ of_inode (Some inode) ask = ask (protection_of inode)
 
 -- a directory: nothing is asked of a file
 abbrev pub if_directory : InodeKind → Option Status → Option Status
-if_directory (RegularFile size filled verifier) asked = None
 if_directory (DirectoryKind parent subdirectories) asked = asked
+if_directory kind asked = None
 
 abbrev pub of_directory_inode : Option Inode → (Protection → Option Status) → Option Status
 of_directory_inode None ask = None
@@ -33,7 +34,7 @@ of_directory_inode (Some inode) ask = if_directory inode.kind (ask (protection_o
 -- a file: nothing is asked of a directory
 abbrev pub if_file : InodeKind → Option Status → Option Status
 if_file (RegularFile size filled verifier) asked = asked
-if_file (DirectoryKind parent subdirectories) asked = None
+if_file kind asked = None
 
 abbrev pub of_file_inode : Option Inode → (Protection → Option Status) → Option Status
 of_file_inode None ask = None
@@ -54,6 +55,11 @@ protection_under s fileid name = protection_at s (fileid_found (entries_of s.own
 abbrev pub new_asked : Credential → Protection → Option Protection → Option Status
 new_asked who directory None = needs (may_change who directory)
 new_asked who directory (Some object) = None
+
+-- a device is for uid 0 to make
+abbrev pub mknod_asked : Credential → Kind → Protection → Option Protection → Option Status
+mknod_asked who kind directory None = then_asks (needs (may_change who directory)) (reserved (not (is_device kind) || (who.uid == 0)))
+mknod_asked who kind directory (Some object) = None
 
 -- UNCHECKED over a file that is there sets the size alone
 abbrev pub over_kind : Credential → CreateMode → Protection → Kind → Option Status
@@ -77,8 +83,14 @@ target_asked who directory (Some object) = gone_asked who directory (Some object
 
 -- a directory that comes into another one needs w
 abbrev pub moved_kind : Credential → Bool → Protection → Kind → Option Status
-moved_kind who stays object Regular = None
 moved_kind who stays object types.DirectoryKind = needs (stays || (rights_of who object).writes)
+moved_kind who stays object kind = None
+
+-- both names are of one node, of which nothing is asked
+abbrev pub are_one : Option ℕ → Option ℕ → Bool
+are_one None target = false
+are_one (Some fileid) None = false
+are_one (Some fileid) (Some target) = target == fileid
 
 -- what moves: its name goes, the other comes
 abbrev pub move_asked : Credential → Bool → Protection → Protection → Option Protection → Option Protection → Option Status
@@ -99,12 +111,18 @@ of_held_names who from_name to_name s from to =
     of_directory_inode (get s.own.inodes.inodes from) (λ source. of_directory_inode (get s.own.inodes.inodes to) (λ target.
     then_asks (needs (may_search who source))
     (then_asks (needs (may_search who target))
-    (if is_no_child from_name || is_no_child to_name || is_one_entry from from_name to to_name then None
+    (if is_no_child from_name || is_no_child to_name
+    || are_one (fileid_found (entries_of s.own from) from_name) (fileid_found (entries_of s.own to) to_name) then None
     else move_asked who (from == to) source target (protection_under s from from_name) (protection_under s to to_name)))))
+
+-- LINK: a new name, of what is there
+abbrev pub link_asked : Credential → List ℕ → LogicalSet → ℕ → ℕ → Option Status
+link_asked who name s fileid directory =
+    of_inode (get s.own.inodes.inodes fileid) (λ object. of_held_name who name s directory (new_asked who))
 
 -- ---- calls
 
--- a call on a fileid and, of a RENAME, on another, by its procedure
+-- a call on a fileid and, of RENAME and LINK, on another, by its procedure
 abbrev pub asked_of : Credential → Call → LogicalSet → ℕ → ℕ → Option Status
 asked_of who (Setattr handle set guard) s fileid other = of_inode (get s.own.inodes.inodes fileid) (set_refusal who set)
 asked_of who (Lookup directory name) s fileid other =
@@ -113,9 +131,12 @@ asked_of who (Read handle offset count) s fileid other = of_file_inode (get s.ow
 asked_of who (Write handle offset count written) s fileid other = of_file_inode (get s.own.inodes.inodes fileid) (write_rights who)
 asked_of who (Create directory name mode) s fileid other = of_held_name who name s fileid (create_asked who mode)
 asked_of who (Mkdir directory name set) s fileid other = of_held_name who name s fileid (new_asked who)
+asked_of who (Symlink directory name set text) s fileid other = of_held_name who name s fileid (new_asked who)
+asked_of who (Mknod directory name kind set) s fileid other = of_held_name who name s fileid (mknod_asked who kind)
 asked_of who (Remove directory name) s fileid other = of_held_name who name s fileid (gone_asked who)
 asked_of who (Rmdir directory name) s fileid other = of_held_name who name s fileid (gone_asked who)
 asked_of who (Rename from from_name to to_name) s fileid other = of_held_names who from_name to_name s fileid other
+asked_of who (Link handle directory name) s fileid other = link_asked who name s fileid other
 asked_of who (Readdir directory cookie verifier count) s fileid other =
     of_directory_inode (get s.own.inodes.inodes fileid) (λ directory. needs (may_list who directory))
 asked_of who (Readdirplus directory cookie verifier names_count count) s fileid other =

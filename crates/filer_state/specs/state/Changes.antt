@@ -1,59 +1,56 @@
 -- What calls show and change of what is under Logical, beyond the words of each value (RFC 1813 section 2.6).
 use Rattle.std.specs.Prelude.{ℕ, ◌+◌, ◌*◌, List, map, Option, Some, None}
 use Rattle.std.specs.FinMap.{get}
-use Rattle.nfs_model.specs.Types.{Moment, Ownership, SetAttributes, Shown, Regular, DirectoryKind, Answer, GetattrDone}
+use Rattle.nfs_model.specs.Types.{Moment, Ownership, SetAttributes, Shown, Answer, GetattrDone}
 use Rattle.nfs_model.specs.Types.{Failed, Stale}
 use Rattle.nfs_model.specs.Server.{Attributes, block_size}
 use Rattle.nfs_model.specs.Shown.{effective_attributes, directory_size}
 use Rattle.nfs_model.specs.Serial.Rights.{ownership_of}
 use Rattle.nfs_model.specs.Serial.Setattr.{set_attributes}
-use Rattle.nfs_model.specs.volume.Inodes as inodes
-use Rattle.nfs_model.specs.volume.Inodes.{InodeKind, RegularFile, Inode, inode_set}
+use Rattle.nfs_model.specs.volume.Inodes.{InodeKind, RegularFile, DirectoryKind, SpecialFile, Inode, filled_blocks, inode_set}
 use Rattle.nfs_model.specs.volume.Stripes.{StripeValue, touch_taken, file_card_owned}
+use Rattle.filer_state.specs.state.Protected.{kind_shown}
 use Rattle.filer_state.specs.state.Lenses.{LogicalSet}
 
+-- the attributes as they hold: only a file has a touch
+abbrev pub attributes_now : Option Moment → Attributes → InodeKind → Attributes
+attributes_now touch a (RegularFile size filled verifier) = effective_attributes touch a
+attributes_now touch a kind = a
+
+-- a directory's name in its parent, its own `.` and a `..` of each subdirectory are links to it; all else has as many as it has names
+abbrev pub links_in : ℕ → InodeKind → ℕ
+links_in names (DirectoryKind parent subdirectories) = 2 + subdirectories
+links_in names kind = names
+
+-- the size that is shown: all directories show the same
+abbrev pub size_told : InodeKind → ℕ
+size_told (RegularFile size filled verifier) = size
+size_told (DirectoryKind parent subdirectories) = directory_size
+size_told (SpecialFile special size) = size
+
 -- fattr3 of a node by its inode and its latest touch
-abbrev pub shown_kind : ℕ → ℕ → Attributes → InodeKind → Option Moment → Shown
-shown_kind volume fileid a (RegularFile size filled verifier) touch = record {
-  kind = Regular;
+abbrev pub shown_kind : ℕ → ℕ → Attributes → ℕ → InodeKind → Option Moment → Shown
+shown_kind volume fileid a names kind touch = record {
+  kind = kind_shown kind;
   mode = a.mode;
-  links = 1;
+  links = links_in names kind;
   uid = a.uid;
   gid = a.gid;
-  size = size;
-  used = block_size * filled;
+  size = size_told kind;
+  used = block_size * filled_blocks kind;
   fsid = volume;
   fileid = fileid;
   atime = a.atime;
-  mtime = (effective_attributes touch a).mtime;
-  ctime = (effective_attributes touch a).ctime;
-}
-shown_kind volume fileid a (inodes.DirectoryKind parent subdirectories) touch = record {
-  kind = DirectoryKind;
-  mode = a.mode;
-  links = 2 + subdirectories;
-  uid = a.uid;
-  gid = a.gid;
-  size = directory_size;
-  used = 0;
-  fsid = volume;
-  fileid = fileid;
-  atime = a.atime;
-  mtime = a.mtime;
-  ctime = a.ctime;
+  mtime = (attributes_now touch a kind).mtime;
+  ctime = (attributes_now touch a kind).ctime;
 }
 
 abbrev pub shown_inode : ℕ → ℕ → Inode → Option Moment → Shown
-shown_inode volume fileid inode touch = shown_kind volume fileid inode.attributes inode.kind touch
+shown_inode volume fileid inode touch = shown_kind volume fileid inode.attributes inode.names inode.kind touch
 
 -- the touches of a file taken in all stripes
 abbrev pub touches_taken : ℕ → List StripeValue → List StripeValue
 touches_taken fileid stripes = map (touch_taken fileid) stripes
-
--- the attributes as they hold: a directory has no touch
-abbrev pub attributes_now : Option Moment → Attributes → InodeKind → Attributes
-attributes_now touch a (RegularFile size filled verifier) = effective_attributes touch a
-attributes_now touch a (inodes.DirectoryKind parent subdirectories) = a
 
 -- a node of a stripe settles, and its card has an owner
 abbrev pub stripe_settled : ℕ → Ownership → StripeValue → StripeValue

@@ -1,7 +1,7 @@
 -- The parcels as a run begins, by the layout and the verifier: each volume has its root alone, and all its numbers below total
 -- are free (our profile).
 use Rattle.std.specs.Prelude.{◌≡◌, ℕ, nat_lt, List, [], ◌∷◌, Option, Some, None, slice_get, slice_index_or, replicate, if◌then◌else◌}
-use Rattle.std.specs.FinMap.{from_sorted}
+use Rattle.std.specs.FinMap.{empty, from_sorted}
 use Rattle.std.specs.FinSet as sets
 use Rattle.nfs_model.specs.Types.{Moment, Ownership}
 use Rattle.nfs_model.specs.Tree as trees
@@ -29,6 +29,7 @@ opening_logical verifier stripes largest most_inodes most_steps owner begun size
   most_steps = most_steps;
   inodes = opening_inodes owner begun;
   directories = from_sorted ((root, empty_directory) ∷ []);
+  texts = empty;
   stock = sets.empty;
   dead = no_dead size;
   memos = replicate remembered None;

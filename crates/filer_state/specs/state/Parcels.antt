@@ -31,6 +31,7 @@ no_logical = record {
   most_steps = 0;
   inodes = record { next = 0; used = 0; inodes = maps.empty };
   directories = maps.empty;
+  texts = maps.empty;
   stock = sets.empty;
   dead = no_dead 1024;
   memos = [];

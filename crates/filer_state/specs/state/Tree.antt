@@ -7,11 +7,11 @@ use Rattle.std.specs.FinSet.{FinSet, retain, from_list}
 use Rattle.nfs_model.specs.Types.{Moment}
 use Rattle.nfs_model.specs.Tree.{Layout}
 use Rattle.nfs_model.specs.Server as servers
-use Rattle.nfs_model.specs.Server.{Attributes, Node, File, Directory, Server, block_size}
+use Rattle.nfs_model.specs.Server.{Attributes, Node, File, Directory, Special, Server, block_size}
 use Rattle.nfs_model.specs.Shown.{touched}
 use Rattle.nfs_model.specs.volume.Maps.{map_values}
 use Rattle.nfs_model.specs.volume.Directories.{DirectoryValue, empty_directory}
-use Rattle.nfs_model.specs.volume.Inodes.{InodeKind, RegularFile, DirectoryKind, Inode}
+use Rattle.nfs_model.specs.volume.Inodes.{InodeKind, RegularFile, DirectoryKind, SpecialFile, Inode}
 use Rattle.nfs_model.specs.volume.Stripes.{StripeValue, stripe_of, byte_at, is_filled, touch_of}
 use Rattle.nfs_model.specs.volume.Ranges.{RangeValue}
 use Rattle.filer_state.specs.state.Parcels.{FilerParcel, no_stripe}
@@ -61,25 +61,31 @@ abbrev pub directory_or_empty : Option DirectoryValue → DirectoryValue
 directory_or_empty None = empty_directory
 directory_or_empty (Some d) = d
 
--- a node by its attributes and kind: a file's size is its inode's, its bytes, blocks and touch are its stripes'
-abbrev pub node_by : List StripeValue → Option DirectoryValue → ℕ → Attributes → InodeKind → Node
-node_by stripes directory fileid attributes (RegularFile size filled verifier) = File (record {
-  attributes = attributes;
-  bytes = file_bytes stripes fileid size;
-  filled = file_filled stripes fileid;
-  touch = file_touch stripes fileid;
-  verifier = verifier;
-})
-node_by stripes directory fileid attributes (DirectoryKind parent subdirectories) = Directory (record {
-  attributes = attributes;
-  parent = parent;
-  next = (directory_or_empty directory).next;
-  list = (directory_or_empty directory).list;
-})
+-- the text of a symbolic link
+abbrev pub text_or_empty : Option (List ℕ) → List ℕ
+text_or_empty None = []
+text_or_empty (Some text) = text
+
+-- A node by its attributes, its count of names and its kind: a file has these bytes by its size, these blocks and this touch, a
+-- directory these entries, a symbolic link this text.
+abbrev pub node_with : (ℕ → List ℕ) → FinSet nat_cmp → Option Moment → DirectoryValue → List ℕ → Attributes → ℕ → InodeKind → Node
+node_with bytes blocks touch entries text attributes names (RegularFile size filled verifier) =
+    File (record { attributes = attributes; bytes = bytes size; filled = blocks; touch = touch; verifier = verifier; links = names })
+node_with bytes blocks touch entries text attributes names (DirectoryKind parent subdirectories) =
+    Directory (record { attributes = attributes; parent = parent; next = entries.next; list = entries.list })
+node_with bytes blocks touch entries text attributes names (SpecialFile special size) =
+    Special (record { attributes = attributes; special = special; text = text; links = names })
+
+-- a file's size is its inode's, its bytes, blocks and touch are its stripes'
+abbrev pub node_by : List StripeValue → Option DirectoryValue → Option (List ℕ) → ℕ → Attributes → ℕ → InodeKind → Node
+node_by stripes directory text fileid attributes names kind =
+    node_with (file_bytes stripes fileid) (file_filled stripes fileid) (file_touch stripes fileid) (directory_or_empty directory)
+    (text_or_empty text) attributes names kind
 
 -- the node of an inode
-abbrev pub node_of : List StripeValue → FinMap nat_cmp DirectoryValue → ℕ → Inode → Node
-node_of stripes directories fileid inode = node_by stripes (get directories fileid) fileid inode.attributes inode.kind
+abbrev pub node_of : List StripeValue → FinMap nat_cmp DirectoryValue → FinMap nat_cmp (List ℕ) → ℕ → Inode → Node
+node_of stripes directories texts fileid inode =
+    node_by stripes (get directories fileid) (get texts fileid) fileid inode.attributes inode.names inode.kind
 
 -- ---- volumes
 
@@ -100,7 +106,7 @@ volume_of p = record {
   most_steps = p.logical.most_steps;
   verifier = p.logical.verifier;
   next = p.logical.inodes.next;
-  nodes = map_values (node_of p.stripes p.logical.directories) p.logical.inodes.inodes;
+  nodes = map_values (node_of p.stripes p.logical.directories p.logical.texts) p.logical.inodes.inodes;
   memos = p.logical.memos;
 }
 

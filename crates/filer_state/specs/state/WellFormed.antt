@@ -9,7 +9,7 @@ use Rattle.nfs_model.specs.Serial.Rights.{ownership_of}
 use Rattle.nfs_model.specs.Parts.{most_ranges}
 use Rattle.affinity.specs.Largest.{mebibyte}
 use Rattle.depot_rule.specs.Sums.{total}
-use Rattle.nfs_model.specs.volume.Inodes.{InodeKind, RegularFile, DirectoryKind, Inode, filled_blocks, inodes_of_a_volume}
+use Rattle.nfs_model.specs.volume.Inodes.{InodeKind, Inode, filled_blocks, inodes_of_a_volume}
 use Rattle.nfs_model.specs.volume.Stripes.{Card, OfFile, OfDirectory, Block, StripeValue, IsStripe, stripe_of, byte_of}
 use Rattle.nfs_model.specs.volume.Ranges.{RangeValue, IsRange, IsRangeSize}
 use Rattle.nfs_model.specs.volume.Logical.{LogicalValue}
@@ -30,10 +30,9 @@ abbrev pub owner_shown : Card → Option Ownership
 owner_shown (OfFile size touch owner) = Some owner
 owner_shown OfDirectory = None
 
--- the owner of a file, by its inode; of a directory none
+-- the owner of a file, by its inode; nothing else has one that a card shows
 abbrev pub owner_by : Attributes → InodeKind → Option Ownership
-owner_by a (RegularFile size filled verifier) = Some (ownership_of a)
-owner_by a (DirectoryKind parent subdirectories) = None
+owner_by a kind = option_map (λ (size : ℕ). ownership_of a) (size_in kind)
 
 abbrev pub owner_in : Inode → Option Ownership
 owner_in inode = owner_by inode.attributes inode.kind

@@ -52,9 +52,9 @@ pub fn writing_calls_are_right()
     ensures in_volume_starves { VolumeWriteMayStarve }
 {}
 
-/// A READ or a COMMIT that the owner, the group and the mode of the file refuse its caller fails and
-/// changes nothing, as the serial server's; any other comes to what it comes to where nothing is
-/// asked. Who owns the file is on its card in each stripe, and in its inode.
+/// A READ or a COMMIT that the owner, the group and the mode of the file refuse its caller fails
+/// and changes nothing, as the serial server's; any other comes to what it comes to where nothing
+/// is asked. Who owns the file is on its card in each stripe, and in its inode.
 pub fn reads_are_permitted()
     ensures in_stripe_refused { StripeReadIsRefused }
     ensures in_stripe { StripeReadIsPermitted }

@@ -1,6 +1,6 @@
 //! What follows from the definitions. The functions do nothing: their contracts are theorems.
 
-ghost use Rattle.filer_state.specs.laws.Laws.{PartsPartition, UsedFits, EntriesFit};
+ghost use Rattle.filer_state.specs.laws.Laws.{PartsPartition, UsedFits, SubdirectoriesFit};
 ghost use Rattle.filer_state.specs.laws.Laws.{OpensSound, OpensAsServer, OpensFree};
 ghost use Rattle.filer_state.specs.laws.Laws.{StepsAreLocal, StepsKeep, StepsCommute};
 ghost use Rattle.filer_state.specs.laws.Laws.{HistoriesReplay, HistoriesKeepSizes};
@@ -55,10 +55,10 @@ pub fn parts_partition()
     ensures { PartsPartition }
 {}
 
-/// Counts of a sound volume have limits: used blocks, and entries of a directory.
+/// Counts of a sound volume have limits: used blocks, and subdirectories of a directory.
 pub fn counts_fit()
     ensures used { UsedFits }
-    ensures entries { EntriesFit }
+    ensures subdirectories { SubdirectoriesFit }
 {}
 
 /// The parcels of a typed set are a part of what is stored: they show it, and change just it.

@@ -2,6 +2,8 @@
 
 ghost use Rattle.filer_state.specs.names.Laws.{
   LookupIsRight,
+  ReadlinkIsRight,
+  ReadlinkMayStarve,
   ReaddirIsRight,
   ReaddirMayStarve,
   ReaddirplusIsRight,
@@ -13,11 +15,14 @@ ghost use Rattle.filer_state.specs.names.Laws.{
   MountIsRight,
 };
 
-/// On every sound volume with the parcels that are held, LOOKUP, READDIR, READDIRPLUS, COMMIT,
-/// ACCESS, FSINFO, PATHCONF and a MNT below the root answer as the serial server does, change
-/// nothing, and all stays sound. A READDIR or READDIRPLUS that would list may find no memory.
+/// On every sound volume with the parcels that are held, LOOKUP, READLINK, READDIR, READDIRPLUS,
+/// COMMIT, ACCESS, FSINFO, PATHCONF and a MNT below the root answer as the serial server does,
+/// change nothing, and all stays sound. A READLINK that would tell a text, and a READDIR or
+/// READDIRPLUS that would list, may find no memory.
 pub fn name_calls_are_right()
     ensures lookup { LookupIsRight }
+    ensures readlink { ReadlinkIsRight }
+    ensures starved_link { ReadlinkMayStarve }
     ensures readdir { ReaddirIsRight }
     ensures starved { ReaddirMayStarve }
     ensures readdirplus { ReaddirplusIsRight }

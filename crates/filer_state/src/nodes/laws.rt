@@ -5,6 +5,8 @@ ghost use Rattle.filer_state.specs.nodes.Laws.{
   NodesAreDropped,
   FilesAreSized,
   NodesAreMoved,
+  NodesAreLinked,
+  NodesAreUnlinked,
 };
 
 /// On every sound volume, a node made under a name that isn't there, and an empty one dropped with
@@ -24,4 +26,11 @@ pub fn files_are_sized()
 /// below it, leaves all sound, and is seen there.
 pub fn nodes_are_moved()
     ensures { NodesAreMoved }
+{}
+
+/// On every sound volume, a node that isn't a directory and gets a name that isn't there, and one
+/// that loses a name and has others, leave all sound, and are seen with one more, and one less.
+pub fn nodes_are_linked()
+    ensures linked { NodesAreLinked }
+    ensures unlinked { NodesAreUnlinked }
 {}

@@ -5,7 +5,7 @@ use connections::{Connection, Device, Flags, close_under, flag_under};
 
 impl<D: Device, R> Lane<D, R> {
     ghost use Rattle.std.specs.Prelude.{◌≡◌, option_copied, IfSome};
-    ghost use Rattle.slab.specs.Slab.{get, slab_len};
+    ghost use Rattle.slab.specs.Slab.{get};
     ghost use Rattle.connections.specs.Keyed.{Closes, Flagged};
     ghost use Rattle.granted_calls.specs.shared_waiting.Passes.{known};
     ghost use Rattle.lanes.specs.Story.{with_closed};
@@ -18,13 +18,6 @@ impl<D: Device, R> Lane<D, R> {
         ensures { option_copied result ≡ get (connections_in self.now) key }
     {
         self.connections.get(key)
-    }
-
-    /// How many connections are open.
-    pub fn open_count(&self) -> usize
-        ensures { result ≡ slab_len (connections_in self.now) }
-    {
-        self.connections.len()
     }
 
     /// How many messages were admitted and not finished.

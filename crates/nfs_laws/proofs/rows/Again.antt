@@ -105,7 +105,7 @@ set_448 =
 abbrev renamed : Memo
 renamed = record { caller = ann; change = Renames root a root b; moment = at 2; told = ToldRenamed (root_changed 2 2) (root_changed 2 2) }
 
--- ---- each of the six is remembered, with its first reply
+-- ---- each of the nine is remembered, with its first reply
 
 setattr_is_remembered :
     memos_of (serial (one_file four) (Ask (Setattr (h 2) (record no_attributes { mode = Some 448 }) (Some (at 1))) ann) (at 2) false).server 0
@@ -142,7 +142,7 @@ rename_is_remembered :
     ≡ in_first renamed
 rename_is_remembered = simp evaluate refl
 
--- ---- each of the six is told again with its first reply
+-- ---- each of the nine is told again with its first reply
 
 -- its guard is stale by now
 setattr_again :

@@ -91,15 +91,15 @@ stored = record { mode = 420; uid = 65534; gid = 65534; atime = at 1; mtime = at
 
 -- a file of nobody, with these bytes and blocks
 abbrev pub file : List ℕ → FinSet nat_cmp → Node
-file bytes filled = File (record { attributes = stored; bytes = bytes; filled = filled; touch = None; verifier = None })
+file bytes filled = File (record { attributes = stored; bytes = bytes; filled = filled; touch = None; verifier = None; links = 1 })
 
 -- one that was written to, at this many seconds
 abbrev pub touched_file : ℕ → List ℕ → FinSet nat_cmp → Node
-touched_file seconds bytes filled = File (record { attributes = stored; bytes = bytes; filled = filled; touch = Some (at seconds); verifier = None })
+touched_file seconds bytes filled = File (record { attributes = stored; bytes = bytes; filled = filled; touch = Some (at seconds); verifier = None; links = 1 })
 
 -- one that was made exclusively
 abbrev pub exclusive_file : ℕ → Node
-exclusive_file byte = File (record { attributes = stored; bytes = []; filled = no_blocks; touch = None; verifier = Some (replicate 8 byte) })
+exclusive_file byte = File (record { attributes = stored; bytes = []; filled = no_blocks; touch = None; verifier = Some (replicate 8 byte); links = 1 })
 
 -- a directory of nobody, by its parent, its next cookie and its entries
 abbrev pub directory : ℕ → ℕ → List Listed → Node

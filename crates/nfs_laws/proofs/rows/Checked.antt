@@ -51,7 +51,7 @@ owned mode uid gid = record { mode = mode; uid = uid; gid = gid; atime = at 1; m
 -- a file of one byte, in its block
 abbrev pub owned_file : ℕ → ℕ → ℕ → Node
 owned_file mode uid gid =
-    File (record { attributes = owned mode uid gid; bytes = 5 ∷ []; filled = block_0; touch = None; verifier = None })
+    File (record { attributes = owned mode uid gid; bytes = 5 ∷ []; filled = block_0; touch = None; verifier = None; links = 1 })
 
 -- a directory below the root, by its next cookie and its entries
 abbrev pub owned_directory : ℕ → ℕ → ℕ → ℕ → List Listed → Node

@@ -2,7 +2,7 @@
 use Rattle.std.proofs.Common.{◌≡◌, true, false, [], ◌∷◌, replicate, Some, None, refl}
 use Rattle.nfs_model.specs.Types.{Unchecked, Guarded, Exclusive, Null, Getattr, Setattr, Lookup, Read, Write, Create, Mkdir, Remove}
 use Rattle.nfs_model.specs.Types.{Rmdir, Rename, Readdir, Readdirplus, Readlink, Symlink, Mknod, Link, CheckAccess, Fsstat, Fsinfo}
-use Rattle.nfs_model.specs.Types.{Pathconf, Commit, Unsupported, Census, Grow, Ask, Refused, SystemError, GarbageArguments}
+use Rattle.nfs_model.specs.Types.{Pathconf, Commit, Regular, SpecialKind, Fifo, Census, Grow, Ask, Refused, SystemError, GarbageArguments}
 use Rattle.nfs_model.specs.Tree.{Serial, Aggregate, Volume, Logical, Stripe, Vbn, Range, excludes}
 use Rattle.nfs_model.specs.Home.{home, home_of_asked}
 use Rattle.nfs_model.specs.Serial.Step.{serial}
@@ -50,17 +50,20 @@ fsinfo_is_of_logical = refl
 pathconf_is_of_logical : home layout (Pathconf root) ≡ Some (Logical 0)
 pathconf_is_of_logical = refl
 
-readlink_has_no_home : home layout (Unsupported Readlink) ≡ None
-readlink_has_no_home = refl
+readlink_is_of_logical : home layout (Readlink root) ≡ Some (Logical 0)
+readlink_is_of_logical = refl
 
-symlink_has_no_home : home layout (Unsupported Symlink) ≡ None
-symlink_has_no_home = refl
+symlink_is_of_logical : home layout (Symlink root a no_attributes b) ≡ Some (Logical 0)
+symlink_is_of_logical = refl
 
-mknod_has_no_home : home layout (Unsupported Mknod) ≡ None
-mknod_has_no_home = refl
+mknod_is_of_logical : home layout (Mknod (handle_bytes 1 1) a Regular no_attributes) ≡ Some (Logical 1)
+mknod_is_of_logical = refl
 
-link_has_no_home : home layout (Unsupported Link) ≡ None
-link_has_no_home = refl
+link_is_of_logical : home layout (Link (h 2) root a) ≡ Some (Logical 0)
+link_is_of_logical = refl
+
+link_over_two_volumes_has_no_home : home layout (Link (h 2) (handle_bytes 1 1) a) ≡ None
+link_over_two_volumes_has_no_home = refl
 
 commit_is_of_logical : home layout (Commit root) ≡ Some (Logical 0)
 commit_is_of_logical = refl
@@ -264,8 +267,17 @@ decoding_of_fsinfo = refl
 decoding_of_pathconf : may_starve_at_decoding (Ask (Pathconf root) nobody) ≡ false
 decoding_of_pathconf = refl
 
-decoding_of_symlink : may_starve_at_decoding (Ask (Unsupported Symlink) nobody) ≡ false
+decoding_of_symlink : may_starve_at_decoding (Ask (Symlink root a no_attributes b) nobody) ≡ true
 decoding_of_symlink = refl
+
+decoding_of_readlink : may_starve_at_decoding (Ask (Readlink root) nobody) ≡ false
+decoding_of_readlink = refl
+
+decoding_of_mknod : may_starve_at_decoding (Ask (Mknod root a Regular no_attributes) nobody) ≡ true
+decoding_of_mknod = refl
+
+decoding_of_link : may_starve_at_decoding (Ask (Link (h 2) root a) nobody) ≡ true
+decoding_of_link = refl
 
 decoding_of_commit : may_starve_at_decoding (Ask (Commit root) nobody) ≡ false
 decoding_of_commit = refl
@@ -375,8 +387,20 @@ fsinfo_may_not_starve = simp evaluate refl
 pathconf_may_not_starve : may_starve_later start (Ask (Pathconf root) nobody) (at 1) ≡ false
 pathconf_may_not_starve = simp evaluate refl
 
-link_may_not_starve : may_starve_later start (Ask (Unsupported Link) nobody) (at 1) ≡ false
-link_may_not_starve = refl
+link_may_starve : may_starve_later (with_file (file [] no_blocks)) (Ask (Link (h 2) root b) nobody) (at 1) ≡ true
+link_may_starve = simp evaluate refl
+
+failed_link_may_not_starve : may_starve_later (with_file (file [] no_blocks)) (Ask (Link (h 2) root a) nobody) (at 1) ≡ false
+failed_link_may_not_starve = simp evaluate refl
+
+symlink_may_starve : may_starve_later start (Ask (Symlink root a no_attributes b) nobody) (at 1) ≡ true
+symlink_may_starve = simp evaluate refl
+
+mknod_may_starve : may_starve_later start (Ask (Mknod root a (SpecialKind Fifo) no_attributes) nobody) (at 1) ≡ true
+mknod_may_starve = simp evaluate refl
+
+readlink_of_a_file_may_not_starve : may_starve_later (with_file (file [] no_blocks)) (Ask (Readlink (h 2)) nobody) (at 1) ≡ false
+readlink_of_a_file_may_not_starve = simp evaluate refl
 
 commit_may_not_starve : may_starve_later (with_file (file [] no_blocks)) (Ask (Commit (h 2)) nobody) (at 1) ≡ false
 commit_may_not_starve = simp evaluate refl

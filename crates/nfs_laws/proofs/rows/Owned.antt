@@ -722,8 +722,8 @@ exclusive_creation_again_by_another_tells :
       bytes = [];
       filled = no_blocks;
       touch = None;
-      verifier = Some
-          (replicate 8 1);
+      verifier = Some (replicate 8 1);
+      links = 1;
     })))
     (Ask (Create root a (Exclusive (replicate 8 1))) other) (at 2) false).reply
     ≡ Success (MadeDone (h 2) (shown_of (file_shown 2 0 0 1 1) (octal 0 6 0 0) 8 70) (changed (before 4096 1 1) (root_shown 2 1)))

@@ -242,8 +242,8 @@ rename_into_a_directory :
 rename_into_a_directory = simp evaluate refl
 
 rename_over_an_empty_directory :
-    (serial (serial with_four (Ask (Mkdir root x no_attributes) nobody) (at 2) false).server (Ask (Rename (h 4) e root x) nobody) (at 3) false).reply
-    ≡ Success (RenameDone (changed (before 4096 1 1) (record (directory_shown 4 2 3) { atime = at 1 })) (changed (before 4096 2 2) (root_shown 4 3)))
+    (serial (serial with_two_directories (Ask (Mkdir (h 2) e no_attributes) nobody) (at 2) false).server (Ask (Rename (h 2) e root x) nobody) (at 3) false).reply
+    ≡ Success (RenameDone (changed (before 4096 2 2) (record (directory_shown 2 2 3) { atime = at 1 })) (changed (before 4096 1 1) (root_shown 4 3)))
 rename_over_an_empty_directory = simp evaluate refl
 
 replaced_directory_is_stale :

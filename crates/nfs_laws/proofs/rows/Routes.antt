@@ -2,7 +2,7 @@
 -- volume, a whole volume, the aggregate of a volume, all volumes, or nothing. Typed by hand, one row a procedure.
 use Rattle.std.proofs.Common.{◌≡◌, [], ◌∷◌, replicate, None, refl}
 use Rattle.nfs_model.specs.Types.{Unchecked, Null, Getattr, Setattr, Lookup, Read, Write, Create, Mkdir, Remove, Rmdir, Rename, Readdir, Readdirplus}
-use Rattle.nfs_model.specs.Types.{Readlink, Symlink, Mknod, Link, CheckAccess, Fsstat, Fsinfo, Pathconf, Commit, Unsupported, Census, Grow}
+use Rattle.nfs_model.specs.Types.{Readlink, Symlink, Mknod, Link, CheckAccess, Fsstat, Fsinfo, Pathconf, Commit, Regular, Census, Grow}
 use Rattle.nfs_model.specs.Route.{AtOnce, OfNames, OfBytesRead, OfBytesWritten, OfTwoHandles, OfVolume, OfAggregate, OfEverything, route}
 use Rattle.nfs_model.specs.Serial.Create.{no_attributes}
 use Rattle.nfs_laws.proofs.rows.Cases.{h, a, b}
@@ -22,8 +22,8 @@ lookup_is_on_names = refl
 access_is_on_names : route (CheckAccess (h 2) 63) ≡ OfNames (h 2)
 access_is_on_names = refl
 
-readlink_is_on_nothing : route (Unsupported Readlink) ≡ AtOnce
-readlink_is_on_nothing = refl
+readlink_is_on_names : route (Readlink (h 2)) ≡ OfNames (h 2)
+readlink_is_on_names = refl
 
 read_is_on_bytes : route (Read (h 2) 700 12) ≡ OfBytesRead (h 2) 700 12
 read_is_on_bytes = refl
@@ -37,11 +37,11 @@ create_is_on_names = refl
 mkdir_is_on_names : route (Mkdir (h 2) a no_attributes) ≡ OfNames (h 2)
 mkdir_is_on_names = refl
 
-symlink_is_on_nothing : route (Unsupported Symlink) ≡ AtOnce
-symlink_is_on_nothing = refl
+symlink_is_on_names : route (Symlink (h 2) a no_attributes b) ≡ OfNames (h 2)
+symlink_is_on_names = refl
 
-mknod_is_on_nothing : route (Unsupported Mknod) ≡ AtOnce
-mknod_is_on_nothing = refl
+mknod_is_on_names : route (Mknod (h 2) a Regular no_attributes) ≡ OfNames (h 2)
+mknod_is_on_names = refl
 
 remove_is_on_names : route (Remove (h 2) a) ≡ OfNames (h 2)
 remove_is_on_names = refl
@@ -52,8 +52,8 @@ rmdir_is_on_names = refl
 rename_is_on_two_directories : route (Rename (h 2) a (h 3) b) ≡ OfTwoHandles (h 2) (h 3)
 rename_is_on_two_directories = refl
 
-link_is_on_nothing : route (Unsupported Link) ≡ AtOnce
-link_is_on_nothing = refl
+link_is_on_two_handles : route (Link (h 3) (h 2) a) ≡ OfTwoHandles (h 3) (h 2)
+link_is_on_two_handles = refl
 
 readdir_is_on_names : route (Readdir (h 2) 0 (replicate 8 0) 512) ≡ OfNames (h 2)
 readdir_is_on_names = refl

@@ -1,7 +1,7 @@
--- ACCESS, FSINFO and PATHCONF, and what isn't supported (RFC 1813 sections 3.3.4, 3.3.5, 3.3.10, 3.3.11, 3.3.15, 3.3.19 and 3.3.20).
+-- ACCESS, FSINFO and PATHCONF (RFC 1813 sections 3.3.4, 3.3.19 and 3.3.20).
 use Rattle.std.proofs.Common.{◌≡◌, ℕ, false, [], ◌∷◌, replicate, None, refl}
-use Rattle.nfs_model.specs.Types.{Caller, Readlink, Symlink, Mknod, Link, CheckAccess, Fsinfo, Pathconf, Unsupported, Ask, Success, AccessDone}
-use Rattle.nfs_model.specs.Types.{FsinfoDone, PathconfDone, Stale, BadHandle, NotSupported}
+use Rattle.nfs_model.specs.Types.{Caller, CheckAccess, Fsinfo, Pathconf, Ask, Success, AccessDone}
+use Rattle.nfs_model.specs.Types.{FsinfoDone, PathconfDone, Stale, BadHandle}
 use Rattle.nfs_model.specs.Server.{File, Directory, Server, handle_bytes}
 use Rattle.nfs_model.specs.Serial.Step.{serial}
 use Rattle.nfs_laws.specs.lemmas.Evaluate.{evaluate}
@@ -17,7 +17,7 @@ user uid gid = record { credential = record { uid = uid; gid = gid; gids = [] };
 -- a file of nobody with this mode, and a directory
 abbrev file_of : ℕ → Server
 file_of mode =
-    with_file (File (record { attributes = record stored { mode = mode }; bytes = []; filled = no_blocks; touch = None; verifier = None }))
+    with_file (File (record { attributes = record stored { mode = mode }; bytes = []; filled = no_blocks; touch = None; verifier = None; links = 1 }))
 
 abbrev directory_of : ℕ → Server
 directory_of mode = with_file (Directory (record { attributes = record stored { mode = mode }; parent = 1; next = 3; list = [] }))
@@ -176,25 +176,3 @@ pathconf_of_a_file :
     (serial (with_file (file [] no_blocks)) (Ask (Pathconf (h 2)) nobody) (at 2) false).reply
     ≡ Success (PathconfDone (file_shown 2 0 0 1 1) false)
 pathconf_of_a_file = simp evaluate refl
-
--- ---- what isn't supported
-
-readlink_is_not_supported :
-    (serial start (Ask (Unsupported Readlink) nobody) (at 2) false).reply
-    ≡ fails NotSupported 1
-readlink_is_not_supported = refl
-
-symlink_is_not_supported :
-    (serial start (Ask (Unsupported Symlink) nobody) (at 2) false).reply
-    ≡ fails NotSupported 2
-symlink_is_not_supported = refl
-
-mknod_is_not_supported :
-    (serial start (Ask (Unsupported Mknod) nobody) (at 2) false).reply
-    ≡ fails NotSupported 2
-mknod_is_not_supported = refl
-
-link_is_not_supported :
-    (serial start (Ask (Unsupported Link) nobody) (at 2) false).reply
-    ≡ fails NotSupported 3
-link_is_not_supported = refl

@@ -1,42 +1,54 @@
 -- What a call on a volume keeps of it, and that its answer can be told again.
-use Rattle.std.proofs.Common.{◌≡◌, ℕ, ◌+◌, Bool, true, false, cond, List, [], ◌∷◌, Option, Some, None, refl, ap}
-use Rattle.std.specs.Prelude.{not, ◌==◌, ◌&&◌, is_none, min, nat_le}
-use Rattle.std.specs.FinMap.{get, insert, remove}
+use Rattle.std.proofs.Common.{◌≡◌, ℕ, ◌+◌, Bool, true, false, cond, List, [], ◌∷◌, Option, Some, None, refl, sym, ap, ◌∙◌, arith}
+use Rattle.std.proofs.lemmas.Bool.Decides.{nat_tests}
+use Rattle.std.specs.Prelude.{not, ◌==◌, ◌&&◌, is_none, min, nat_le, nat_lt, if◌then◌else◌}
+use Rattle.std.specs.FinMap.{get, insert}
 use Rattle.nfs_model.specs.Types as model
-use Rattle.nfs_model.specs.Memo.{Told, ToldSet, ToldMade, ToldGone, ToldRenamed}
-use Rattle.nfs_model.specs.Server.{FileNode, DirectoryNode, Node, File, Directory, VolumeState, most_bytes, handle_bytes}
+use Rattle.nfs_model.specs.Memo.{Told, ToldSet, ToldMade, ToldGone, ToldRenamed, ToldLinked}
+use Rattle.nfs_model.specs.Server.{FileNode, DirectoryNode, SpecialNode, Node, File, Directory, Special, VolumeState, most_bytes, handle_bytes}
 use Rattle.nfs_model.specs.Shown.{shown, wcc}
 use Rattle.nfs_model.specs.Names.{find_name, is_dots, name_fault, same_name, dot, dot_dot}
-use Rattle.nfs_model.specs.Locate.{Effect, Fails, Tells, Changes, unless, on_node, on_directory, on_file, Found}
-use Rattle.nfs_model.specs.Locate.{Naming, named_child, on_name}
+use Rattle.nfs_model.specs.Locate.{Effect, Fails, Tells, Changes, unless, on_node, on_directory, on_file, Found, child}
+use Rattle.nfs_model.specs.Locate.{Naming, is_node_of, named_child, on_name}
 use Rattle.nfs_model.specs.Serial.Once.{told_of, answer_told}
 use Rattle.nfs_model.specs.Serial.Permission.{refusal, permitted, permitted_two}
 use Rattle.nfs_model.specs.Serial.Setattr.{with_node, set_file, set_taken, setattr}
 use Rattle.nfs_model.specs.Serial.Getattr.{getattr, tell_of}
 use Rattle.nfs_model.specs.Serial.Lookup.{lookup_told}
+use Rattle.nfs_model.specs.Serial.Links.{with_link, without_link}
+use Rattle.nfs_model.specs.Serial.Readlink.{if_symbolic, on_symbolic, readlink}
 use Rattle.nfs_model.specs.Serial.Read.{read}
 use Rattle.nfs_model.specs.Serial.Write.{Writing, write_some, write}
 use Rattle.nfs_model.specs.Serial.Create.{made_told, with_child, directory_made, made, there_told, set_there, over_taken, is_verifier, new_file, maker, create_over, create_at, create}
 use Rattle.nfs_model.specs.Serial.Mkdir.{new_directory, mkdir_at, mkdir}
-use Rattle.nfs_model.specs.Serial.Remove.{directory_left, without_child, gone, remove_node, remove_at, remove_name}
-use Rattle.nfs_model.specs.Serial.Rmdir.{if_empty, rmdir_node, rmdir_at, rmdir}
-use Rattle.nfs_model.specs.Serial.Rename.{Renaming, climb_fault, met_above, may_go, renamed_volume, rename_told, is_same_entry, rename_at, rename_in, rename}
+use Rattle.nfs_model.specs.Serial.Symlink.{text_fault, new_special, symlink_at, symlink}
+use Rattle.nfs_model.specs.Serial.Mknod.{if_made, mknod_kind, mknod_at, mknod}
+use Rattle.nfs_model.specs.Serial.Remove.{directory_left, without_child, gone, remove_found, remove_at, remove_name}
+use Rattle.nfs_model.specs.Serial.Rmdir.{if_empty, rmdir_found, rmdir_at, rmdir}
+use Rattle.nfs_model.specs.Serial.Link.{directory_fault, links_fault, directory_linked, with_another, linked, link_at, link_name, link}
+use Rattle.nfs_model.specs.Serial.Rename.{Renaming, climb_fault, met_above, may_replace, may_go, renamed_volume, rename_told, rename_at, rename_in, rename}
 use Rattle.nfs_model.specs.Serial.Readdir.{paged, readdir}
 use Rattle.nfs_model.specs.Serial.Readdirplus.{listed_for, paged_plus, readdirplus}
 use Rattle.nfs_model.specs.Serial.Fsstat.{fsstat}
 use Rattle.nfs_model.specs.Serial.Commit.{commit}
 use Rattle.nfs_model.specs.Serial.MountBelow.{part_fault, on_entry, search_refusal, mount_below}
 use Rattle.nfs_laws.specs.Repeated.{is_success}
-use Rattle.nfs_laws.specs.lemmas.Fileids.{AreBelow, insert_below, remove_below, below_next, more_below, renamed_below, found_there}
+use Rattle.nfs_laws.specs.Links.{list_in, names_said}
+use Rattle.nfs_laws.specs.lemmas.Linked.{nothing, Agree, ListsDiffer, IsLinked, IsAlike, alike_agrees, alike_lists, none-listed, named_fileid, made_agrees}
+use Rattle.nfs_laws.specs.lemmas.Linked.{made_lists, another_agrees, another_lists, gone_agrees, gone_lists, renamed_agrees, may_be_empty, set_alike}
+use Rattle.nfs_laws.specs.lemmas.Linked.{written_alike}
+use Rattle.nfs_laws.specs.lemmas.Fileids.{AreBelow, insert_below, left_below, below_next, more_below, below_more, renamed_below, found_there, child_there}
 
 -- ---- what is kept
 
--- a volume with another's number, blocks of a range, and what is remembered; its fileids are below the next one, if they were
+-- a volume with another's number, blocks of a range, and what is remembered; its fileids are below the next one, and names and links agree in
+-- it, if they did
 pub record Keeps (old new : VolumeState) : Type 0 where
   pub number : new.number ≡ old.number
   pub range_blocks : new.range_blocks ≡ old.range_blocks
   pub memos : new.memos ≡ old.memos
   pub fileids : AreBelow old.next old.nodes → AreBelow new.next new.nodes
+  pub linked : IsLinked old → IsLinked new
 
 -- an answer can be told again, of a volume of this number
 abbrev pub CanTell : ℕ → model.Answer → Type 0
@@ -60,7 +72,7 @@ Ends Q old (Tells answer) = Q old answer old
 Ends Q old (Changes answer new) = (is_success (model.Success answer) ≡ true) × Q old answer new
 
 pub same : (volume : VolumeState) → Keeps volume volume
-same volume = record { number = refl; range_blocks = refl; memos = refl; fileids = λ b. b }
+same volume = record { number = refl; range_blocks = refl; memos = refl; fileids = λ b. b; linked = λ l. l }
 
 -- the directory of a name is there
 abbrev pub IsNamed : Naming → Type 0
@@ -95,6 +107,10 @@ module _ (Q : Fact) where
   unless_ends old None e f = f
   unless_ends old (Some status) e f = fails old status
 
+  unless_by : (old : VolumeState) (o : Option model.Status) (e : Effect) → (o ≡ None → Ends Q old e) → Ends Q old (unless o e)
+  unless_by old None e f = f refl
+  unless_by old (Some status) e f = fails old status
+
   pub if_ends : (old : VolumeState) (b : Bool) (e d : Effect) → Ends Q old e → Ends Q old d → Ends Q old (cond b e d)
   if_ends old true e d f g = f
   if_ends old false e d f g = g
@@ -109,12 +125,14 @@ module _ (Q : Fact) where
   directory_ends old None run f = fails old model.Stale
   directory_ends old (Some (File g)) run f = fails old model.NotDirectory
   directory_ends old (Some (Directory d)) run f = f d refl
+  directory_ends old (Some (Special s)) run f = fails old model.NotDirectory
 
   file_ends : (old : VolumeState) (o : Option Node) (run : FileNode → Effect) → ((g : FileNode) → o ≡ Some (File g) → Ends Q old (run g))
       → Ends Q old (on_file o run)
   file_ends old None run f = fails old model.Stale
   file_ends old (Some (File g)) run f = f g refl
   file_ends old (Some (Directory d)) run f = fails old model.Invalid
+  file_ends old (Some (Special s)) run f = fails old model.Invalid
 
   pub name_ends : (name : List ℕ) (moment : model.Moment) (run : Naming → Effect) (volume : VolumeState) (fileid : ℕ)
       → ((x : Naming) → IsNamed x → Ends Q x.volume (run x)) → Ends Q volume (on_name name moment run volume fileid)
@@ -135,6 +153,10 @@ module _ (Q : Fact) where
   permitted_two_ends caller call run f volume from to =
       unless_ends volume (refusal caller call volume from to) (run volume from to) (f volume from to)
 
+  pub empty_by : (old : VolumeState) (list : List model.Listed) (e : Effect) → (list ≡ [] → Ends Q old e) → Ends Q old (if_empty list e)
+  empty_by old [] e f = f refl
+  empty_by old (x ∷ xs) e f = fails old model.NotEmpty
+
   pub empty_ends : (old : VolumeState) (list : List model.Listed) (e : Effect) → Ends Q old e → Ends Q old (if_empty list e)
   empty_ends old [] e f = f
   empty_ends old (x ∷ xs) e f = fails old model.NotEmpty
@@ -148,6 +170,7 @@ module _ (Q : Fact) where
 shown_fileid : (volume : VolumeState) (fileid : ℕ) (node : Node) → (shown volume fileid node).fileid ≡ fileid
 shown_fileid volume fileid (File f) = refl
 shown_fileid volume fileid (Directory d) = refl
+shown_fileid volume fileid (Special s) = refl
 
 made_tells : (n : Naming) (new : VolumeState) (found : Found) (directory : Node) → CanTell new.number (made_told n new found directory)
 made_tells n new found directory = (
@@ -159,15 +182,27 @@ made_tells n new found directory = (
   ),
 )
 
--- of volumes alike but in their nodes
+-- of volumes alike but in their nodes and the next fileid
 others : (old new : VolumeState) → new.number ≡ old.number → new.range_blocks ≡ old.range_blocks → new.memos ≡ old.memos
-    → (AreBelow old.next old.nodes → AreBelow new.next new.nodes) → Keeps old new
-others old new e f g i = record { number = e; range_blocks = f; memos = g; fileids = i }
+    → (nat_lt 1 old.next ≡ true → nat_lt 1 new.next ≡ true) → (AreBelow old.next old.nodes → AreBelow new.next new.nodes)
+    → (IsLinked old → Agree nothing nothing new.nodes × ListsDiffer new.nodes) → Keeps old new
+others old new e f g h i j = record {
+  number = e;
+  range_blocks = f;
+  memos = g;
+  fileids = i;
+  linked = λ l. record { agree = (j l).0; differ = (j l).1; below = i l.below; begun = h l.begun };
+}
 
--- a volume with another node where one is
-another : (volume : VolumeState) (fileid : ℕ) (there node : Node) → get volume.nodes fileid ≡ Some there → Keeps volume (with_node volume fileid node)
-another volume fileid there node e =
-    others volume (with_node volume fileid node) refl refl refl (λ b. insert_below volume.next volume.nodes fileid node (b fileid there e) b)
+-- a volume with another node where one is, which has the same entries and says the same of its names
+another : (volume : VolumeState) (fileid : ℕ) (there node : Node) → get volume.nodes fileid ≡ Some there → IsAlike fileid there node
+    → Keeps volume (with_node volume fileid node)
+another volume fileid there node e alike =
+    others volume (with_node volume fileid node) refl refl refl (λ b. b) (λ b. insert_below volume.next volume.nodes fileid node (b fileid there e) b)
+    (λ l. (
+      alike_agrees nothing nothing volume.nodes fileid there node e alike l.agree,
+      alike_lists volume.nodes fileid there node e alike l.differ,
+    ))
 
 -- ---- procedures whose reply is remembered
 
@@ -175,23 +210,31 @@ pub setattr_ends : (set : model.SetAttributes) (guard : Option model.Moment) (ca
     (fileid : ℕ) → Ends Telling volume (setattr set guard caller moment volume fileid)
 setattr_ends set guard caller moment volume fileid =
     node_ends Telling volume (get volume.nodes fileid) _ (λ node e. unless_ends Telling volume _ _
-    (changes Telling _ _ _ refl (another volume fileid node _ e, (ToldSet _, (refl, refl)))))
+    (changes Telling _ _ _ refl (another volume fileid node _ e (set_alike fileid (set_taken caller set node) moment node), (ToldSet _, (refl, refl)))))
 
-made_ends : (n : Naming) (node : Node) → IsNamed n → Ends Telling n.volume (made n node)
-made_ends n node e =
+-- nothing is found under the name, where names and links agree
+not_listed : (n : Naming) → IsNamed n → named_child n ≡ None → IsLinked n.volume → find_name n.name n.directory.list ≡ None
+not_listed n e none l =
+    none-listed n.volume.nodes n.fileid n.directory n.name (find_name n.name n.directory.list) l.agree e refl n.volume refl none
+
+made_ends : (n : Naming) (node : Node) → IsNamed n → named_child n ≡ None → list_in node ≡ []
+    → (IsLinked n.volume → names_said n.volume.next (Some node) ≡ 1) → Ends Telling n.volume (made n node)
+made_ends n node e none empty one =
     changes Telling n.volume _ (with_child n node) refl (
-      others n.volume (with_child n node) refl refl refl (λ b.
+      others n.volume (with_child n node) refl refl refl (below_more 1 n.volume.next) (λ b.
           let more : AreBelow (n.volume.next + 1) n.volume.nodes = more_below n.volume.next n.volume.nodes b in
           insert_below (n.volume.next + 1) (insert n.volume.nodes n.volume.next node) n.fileid (directory_made n) (more n.fileid _ e)
-          (insert_below (n.volume.next + 1) n.volume.nodes n.volume.next node (below_next n.volume.next) more)),
+          (insert_below (n.volume.next + 1) n.volume.nodes n.volume.next node (below_next n.volume.next) more))
+          (λ l. (made_agrees n node e empty (one l) l, made_lists n node e empty (not_listed n e none l) l)),
       made_tells n (with_child n node) (record { fileid = n.volume.next; node = node }) (directory_made n),
     )
 
-set_there_ends : (n : Naming) (fileid : ℕ) (there node : Node) → get n.volume.nodes fileid ≡ Some there → Ends Telling n.volume (set_there n fileid node)
-set_there_ends n fileid there node e =
+set_there_ends : (n : Naming) (fileid : ℕ) (there node : Node) → get n.volume.nodes fileid ≡ Some there → IsAlike fileid there node
+    → Ends Telling n.volume (set_there n fileid node)
+set_there_ends n fileid there node e alike =
     let new = with_node n.volume fileid node in
     changes Telling n.volume _ new refl (
-      another n.volume fileid there node e,
+      another n.volume fileid there node e alike,
       made_tells (record n { volume = new }) new (record { fileid = fileid; node = node }) (Directory n.directory),
     )
 
@@ -203,90 +246,207 @@ create_over_ends : (n : Naming) (mode : model.CreateMode) (caller : model.Caller
 create_over_ends n (model.Guarded set) caller fileid node e = fails _ _ _
 create_over_ends n (model.Unchecked set) caller fileid (Directory other) e = fails _ _ _
 create_over_ends n (model.Exclusive verifier) caller fileid (Directory other) e = fails _ _ _
+create_over_ends n (model.Unchecked set) caller fileid (Special other) e = fails _ _ _
+create_over_ends n (model.Exclusive verifier) caller fileid (Special other) e = fails _ _ _
 create_over_ends n (model.Exclusive verifier) caller fileid (File f) e =
     if_ends Telling n.volume (is_verifier f.verifier verifier) _ _ (there_ends n (record { fileid = fileid; node = File f })) (fails _ _ model.Exists)
 create_over_ends n (model.Unchecked set) caller fileid (File f) e =
     if_ends Telling n.volume (caller.checked && is_none set.size) _ _ (there_ends n (record { fileid = fileid; node = File f }))
-    (unless_ends Telling n.volume _ _ (set_there_ends n fileid (File f) (File (set_file (set_taken caller (over_taken caller set) (File f)) n.moment f)) e))
+    (unless_ends Telling n.volume _ _ (set_there_ends n fileid (File f) (File (set_file (set_taken caller (over_taken caller set) (File f)) n.moment f)) e
+    (set_alike fileid (set_taken caller (over_taken caller set) (File f)) n.moment (File f))))
 
 create_at_ends : (n : Naming) (mode : model.CreateMode) (caller : model.Caller) (o : Option Found) → IsNamed n → named_child n ≡ o
     → Ends Telling n.volume (create_at n mode caller o)
 create_at_ends n mode caller (Some found) e f = create_over_ends n mode caller found.fileid found.node (found_there n.volume _ found f)
-create_at_ends n mode caller None e f = unless_ends Telling n.volume _ _ (made_ends n (new_file mode (maker caller n) n.moment) e)
+create_at_ends n mode caller None e f = unless_ends Telling n.volume _ _ (made_ends n (new_file mode (maker caller n) n.moment) e f refl (λ l. refl))
 
 pub create_ends : (mode : model.CreateMode) (caller : model.Caller) (n : Naming) → IsNamed n → Ends Telling n.volume (create mode caller n)
 create_ends mode caller n e =
     if_ends Telling n.volume (is_dots n.name) _ _ (fails _ _ _) (create_at_ends n mode caller (named_child n) e refl)
 
-mkdir_at_ends : (n : Naming) (set : model.SetAttributes) (caller : model.Caller) (o : Option Found) → IsNamed n
+-- no directory that is made is the root
+not_the_root : (next : ℕ) (b : Bool) → (next == 1) ≡ b → nat_lt 1 next ≡ true → ◌≡◌ {A = ℕ} (if b then 0 else 1) 1
+not_the_root next true e less = absurd (grind (arith, nat_tests))
+not_the_root next false e less = refl
+
+mkdir_at_ends : (n : Naming) (set : model.SetAttributes) (caller : model.Caller) (o : Option Found) → IsNamed n → named_child n ≡ o
     → Ends Telling n.volume (mkdir_at n set caller o)
-mkdir_at_ends n set caller (Some found) e = fails _ _ _
-mkdir_at_ends n set caller None e = unless_ends Telling n.volume _ _ (made_ends n (new_directory n.fileid set (maker caller n) n.moment) e)
+mkdir_at_ends n set caller (Some found) e f = fails _ _ _
+mkdir_at_ends n set caller None e f =
+    unless_ends Telling n.volume _ _ (made_ends n (new_directory n.fileid set (maker caller n) n.moment) e f refl
+    (λ l. not_the_root n.volume.next (n.volume.next == 1) refl l.begun))
 
 pub mkdir_ends : (set : model.SetAttributes) (caller : model.Caller) (n : Naming) → IsNamed n → Ends Telling n.volume (mkdir set caller n)
-mkdir_ends set caller n e = if_ends Telling n.volume (is_dots n.name) _ _ (fails _ _ _) (mkdir_at_ends n set caller (named_child n) e)
+mkdir_ends set caller n e = if_ends Telling n.volume (is_dots n.name) _ _ (fails _ _ _) (mkdir_at_ends n set caller (named_child n) e refl)
 
-gone_ends : (n : Naming) (fileid : ℕ) → IsNamed n → Ends Telling n.volume (gone n fileid)
-gone_ends n fileid e =
-    changes Telling n.volume _ (without_child n fileid) refl (
-      others n.volume (without_child n fileid) refl refl refl (λ b.
-          insert_below n.volume.next (remove n.volume.nodes fileid) n.fileid (directory_left n) (b n.fileid _ e)
-          (remove_below n.volume.next n.volume.nodes fileid b)),
+symlink_at_ends : (n : Naming) (set : model.SetAttributes) (text : List ℕ) (caller : model.Caller) (o : Option Found) → IsNamed n → named_child n ≡ o
+    → Ends Telling n.volume (symlink_at n set text caller o)
+symlink_at_ends n set text caller (Some found) e f = fails _ _ _
+symlink_at_ends n set text caller None e f =
+    unless_ends Telling n.volume (text_fault text) _
+    (unless_ends Telling n.volume _ _ (made_ends n (new_special model.SymbolicLink 511 set text (maker caller n) n.moment) e f refl (λ l. refl)))
+
+pub symlink_ends : (set : model.SetAttributes) (text : List ℕ) (caller : model.Caller) (n : Naming) → IsNamed n
+    → Ends Telling n.volume (symlink set text caller n)
+symlink_ends set text caller n e =
+    if_ends Telling n.volume (is_dots n.name) _ _ (fails _ _ _) (symlink_at_ends n set text caller (named_child n) e refl)
+
+made_kind_ends : (old : VolumeState) (special : model.SpecialType) (x : Effect) → Ends Telling old x → Ends Telling old (if_made special x)
+made_kind_ends old model.SymbolicLink x f = fails Telling old model.BadType
+made_kind_ends old model.Fifo x f = f
+made_kind_ends old model.Socket x f = f
+made_kind_ends old (model.BlockDevice device) x f = f
+made_kind_ends old (model.CharacterDevice device) x f = f
+
+mknod_kind_ends : (n : Naming) (kind : model.Kind) (set : model.SetAttributes) (caller : model.Caller) → IsNamed n → named_child n ≡ None
+    → Ends Telling n.volume (mknod_kind n kind set caller)
+mknod_kind_ends n model.Regular set caller e f = fails _ _ _
+mknod_kind_ends n model.DirectoryKind set caller e f = fails _ _ _
+mknod_kind_ends n (model.SpecialKind special) set caller e f =
+    made_kind_ends n.volume special _
+    (unless_ends Telling n.volume _ _ (made_ends n (new_special special 420 set [] (maker caller n) n.moment) e f refl (λ l. refl)))
+
+mknod_at_ends : (n : Naming) (kind : model.Kind) (set : model.SetAttributes) (caller : model.Caller) (o : Option Found) → IsNamed n → named_child n ≡ o
+    → Ends Telling n.volume (mknod_at n kind set caller o)
+mknod_at_ends n kind set caller (Some found) e f = fails _ _ _
+mknod_at_ends n kind set caller None e f = mknod_kind_ends n kind set caller e f
+
+pub mknod_ends : (kind : model.Kind) (set : model.SetAttributes) (caller : model.Caller) (n : Naming) → IsNamed n
+    → Ends Telling n.volume (mknod kind set caller n)
+mknod_ends kind set caller n e =
+    if_ends Telling n.volume (is_dots n.name) _ _ (fails _ _ _) (mknod_at_ends n kind set caller (named_child n) e refl)
+
+-- the entry of what is found under the name
+entry_found : (n : Naming) (found : Found) → named_child n ≡ Some found
+    → (y : model.Listed) × ((find_name n.name n.directory.list ≡ Some y) × (y.fileid ≡ found.fileid))
+entry_found n found c = by (find_name n.name n.directory.list) refl c
+  where
+    by : (o : Option model.Listed) → find_name n.name n.directory.list ≡ o → child n.volume o ≡ Some found
+        → (y : model.Listed) × ((find_name n.name n.directory.list ≡ Some y) × (y.fileid ≡ found.fileid))
+    by None f g = absurd cc
+    by (Some y) f g = (y, (f, named_fileid n.volume y found g))
+
+gone_ends : (n : Naming) (found : Found) → IsNamed n → named_child n ≡ Some found → list_in found.node ≡ [] → Ends Telling n.volume (gone n found)
+gone_ends n found e c empty =
+    let there : get n.volume.nodes found.fileid ≡ Some found.node = found_there n.volume _ found c in
+    let y = entry_found n found c in
+    changes Telling n.volume _ (without_child n found) refl (
+      others n.volume (without_child n found) refl refl refl (λ b. b) (λ b.
+          insert_below n.volume.next _ n.fileid (directory_left n) (b n.fileid _ e)
+          (left_below n.volume.next n.volume.nodes found.fileid (without_link n.moment found.node) (b found.fileid found.node there) b))
+          (λ l. (gone_agrees n found y.0 e there y.1.0 y.1.1 empty l, gone_lists n found y.0 e there y.1.0 y.1.1 empty l)),
       (ToldGone _, (refl, refl)),
     )
 
-remove_node_ends : (n : Naming) (fileid : ℕ) (node : Node) → IsNamed n → Ends Telling n.volume (remove_node n fileid node)
-remove_node_ends n fileid (File f) e = gone_ends n fileid e
-remove_node_ends n fileid (Directory d) e = fails _ _ _
+remove_found_ends : (n : Naming) (found : Found) (node : Node) → IsNamed n → named_child n ≡ Some found → found.node ≡ node
+    → Ends Telling n.volume (remove_found n found node)
+remove_found_ends n found (File f) e c is = gone_ends n found e c (ap list_in is)
+remove_found_ends n found (Directory d) e c is = fails _ _ _
+remove_found_ends n found (Special s) e c is = gone_ends n found e c (ap list_in is)
 
-remove_at_ends : (n : Naming) (o : Option Found) → IsNamed n → Ends Telling n.volume (remove_at n o)
-remove_at_ends n None e = fails _ _ _
-remove_at_ends n (Some found) e = remove_node_ends n found.fileid found.node e
+remove_at_ends : (n : Naming) (o : Option Found) → IsNamed n → named_child n ≡ o → Ends Telling n.volume (remove_at n o)
+remove_at_ends n None e c = fails _ _ _
+remove_at_ends n (Some found) e c = remove_found_ends n found found.node e c refl
 
 pub remove_ends : (n : Naming) → IsNamed n → Ends Telling n.volume (remove_name n)
-remove_ends n e = if_ends Telling n.volume (is_dots n.name) _ _ (fails _ _ _) (remove_at_ends n (named_child n) e)
+remove_ends n e = if_ends Telling n.volume (is_dots n.name) _ _ (fails _ _ _) (remove_at_ends n (named_child n) e refl)
 
-rmdir_node_ends : (n : Naming) (fileid : ℕ) (node : Node) → IsNamed n → Ends Telling n.volume (rmdir_node n fileid node)
-rmdir_node_ends n fileid (File f) e = fails _ _ _
-rmdir_node_ends n fileid (Directory d) e = empty_ends Telling n.volume d.list _ (gone_ends n fileid e)
+rmdir_found_ends : (n : Naming) (found : Found) (node : Node) → IsNamed n → named_child n ≡ Some found → found.node ≡ node
+    → Ends Telling n.volume (rmdir_found n found node)
+rmdir_found_ends n found (File f) e c is = fails _ _ _
+rmdir_found_ends n found (Directory d) e c is = empty_by Telling n.volume d.list _ (λ empty. gone_ends n found e c (ap list_in is ∙ empty))
+rmdir_found_ends n found (Special s) e c is = fails _ _ _
 
-rmdir_at_ends : (n : Naming) (o : Option Found) → IsNamed n → Ends Telling n.volume (rmdir_at n o)
-rmdir_at_ends n None e = fails _ _ _
-rmdir_at_ends n (Some found) e = rmdir_node_ends n found.fileid found.node e
+rmdir_at_ends : (n : Naming) (o : Option Found) → IsNamed n → named_child n ≡ o → Ends Telling n.volume (rmdir_at n o)
+rmdir_at_ends n None e c = fails _ _ _
+rmdir_at_ends n (Some found) e c = rmdir_found_ends n found found.node e c refl
 
 pub rmdir_ends : (n : Naming) → IsNamed n → Ends Telling n.volume (rmdir n)
 rmdir_ends n e =
     if_ends Telling n.volume (same_name n.name dot) _ _ (fails _ _ _)
-    (if_ends Telling n.volume (same_name n.name dot_dot) _ _ (fails _ _ _) (rmdir_at_ends n (named_child n) e))
+    (if_ends Telling n.volume (same_name n.name dot_dot) _ _ (fails _ _ _) (rmdir_at_ends n (named_child n) e refl))
+
+linked_ends : (n : Naming) (object : Found) → IsNamed n → named_child n ≡ None → get n.volume.nodes object.fileid ≡ Some object.node
+    → directory_fault object.node ≡ None → Ends Telling n.volume (linked n object)
+linked_ends n object e none there fault =
+    changes Telling n.volume _ (with_another n object) refl (
+      others n.volume (with_another n object) refl refl refl (λ b. b) (λ b.
+          insert_below n.volume.next _ n.fileid (directory_linked n object.fileid) (b n.fileid _ e)
+          (insert_below n.volume.next n.volume.nodes object.fileid (with_link n.moment object.node) (b object.fileid object.node there) b))
+          (λ l. (another_agrees n object e there fault l, another_lists n object e there fault l (not_listed n e none l))),
+      (ToldLinked _ _, (refl, refl)),
+    )
+
+link_at_ends : (object : Found) (n : Naming) (o : Option Found) → IsNamed n → named_child n ≡ o → get n.volume.nodes object.fileid ≡ Some object.node
+    → directory_fault object.node ≡ None → Ends Telling n.volume (link_at object n o)
+link_at_ends object n (Some found) e c there fault = fails _ _ _
+link_at_ends object n None e c there fault = unless_ends Telling n.volume (links_fault object.node) _ (linked_ends n object e c there fault)
+
+link_name_ends : (object : Found) (n : Naming) → IsNamed n → get n.volume.nodes object.fileid ≡ Some object.node
+    → directory_fault object.node ≡ None → Ends Telling n.volume (link_name object n)
+link_name_ends object n e there fault =
+    if_ends Telling n.volume (is_dots n.name) _ _ (fails _ _ _) (link_at_ends object n (named_child n) e refl there fault)
+
+pub link_ends : (name : List ℕ) (moment : model.Moment) (volume : VolumeState) (fileid directory : ℕ)
+    → Ends Telling volume (link name moment volume fileid directory)
+link_ends name moment volume fileid directory =
+    node_ends Telling volume (get volume.nodes fileid) _ (λ node there. unless_by Telling volume (directory_fault node) _ (λ fault.
+    (directory_ends Telling volume (get volume.nodes directory) _ (λ d e. unless_ends Telling volume (name_fault name) _
+    (link_name_ends (record { fileid = fileid; node = node })
+    (record { volume = volume; fileid = directory; directory = d; name = name; moment = moment }) e there fault)))))
 
 renamed_ends : (r : Renaming) (new : VolumeState) → Keeps r.from.volume new → Ends Telling r.from.volume (rename_told r new)
 renamed_ends r new k = changes Telling _ _ new refl (k, (ToldRenamed _ _, (refl, refl)))
 
-rename_at_ends : (r : Renaming) (from to : Option Found) → Ends Telling r.from.volume (rename_at r from to)
-rename_at_ends r None to = fails _ _ _
-rename_at_ends r (Some found) to =
-    let old = r.from.volume in
-    if_ends Telling old (is_same_entry r) _ _ (tells Telling _ _ (same _, (ToldRenamed _ _, (refl, refl))))
-    (unless_ends Telling old (climb_fault (met_above r found.fileid found.node)) _
-    (if_ends Telling old (not (may_go found.node to)) _ _ (fails _ _ model.Exists)
-    (renamed_ends r (renamed_volume r found.fileid to)
-    (others old (renamed_volume r found.fileid to) refl refl refl (λ b. renamed_below old.next r found.fileid to old.nodes b)))))
+-- the ways of a condition, each with what it says
+if_by : (Q : Fact) (old : VolumeState) (b : Bool) (e d : Effect) → Ends Q old e → (b ≡ false → Ends Q old d) → Ends Q old (cond b e d)
+if_by Q old true e d f g = f
+if_by Q old false e d f g = g refl
 
-rename_in_ends : (r : Renaming) → Ends Telling r.from.volume (rename_in r)
-rename_in_ends r =
-    unless_ends Telling r.from.volume (name_fault r.from.name) _
-    (unless_ends Telling r.from.volume (name_fault r.to.name) _
-    (if_ends Telling r.from.volume _ _ _ (fails _ _ _) (rename_at_ends r (named_child r.from) (named_child r.to))))
+-- what may go has no entries
+goes_empty : (moved : Node) (to : Option Found) → not (may_go moved to) ≡ false → (t : Found) → to ≡ Some t → list_in t.node ≡ []
+goes_empty moved None may t e = absurd cc
+goes_empty moved (Some u) may t e =
+    let same : u ≡ t = cc in
+    may_be_empty moved t.node (may_go_is (may_replace moved t.node) (ap (λ (x : Found). not (may_replace moved x.node)) (sym same) ∙ may))
+  where
+    may_go_is : (b : Bool) → not b ≡ false → b ≡ true
+    may_go_is true e = refl
+    may_go_is false e = absurd cc
+
+module _ (volume : VolumeState) (from to : ℕ) (d e : DirectoryNode) (a b : List ℕ) (moment : model.Moment)
+    (at_from : get volume.nodes from ≡ Some (Directory d)) (at_to : get volume.nodes to ≡ Some (Directory e)) where
+  abbrev r : Renaming
+  r = record {
+    from = record { volume = volume; fileid = from; directory = d; name = a; moment = moment };
+    to = record { volume = volume; fileid = to; directory = e; name = b; moment = moment };
+  }
+
+  rename_at_ends : (f t : Option Found) → named_child r.from ≡ f → named_child r.to ≡ t → Ends Telling volume (rename_at r f t)
+  rename_at_ends None t c g = fails _ _ _
+  rename_at_ends (Some found) t c g =
+      let x = entry_found r.from found c in
+      if_by Telling volume (is_node_of found.fileid t) _ _ (tells Telling _ _ (same _, (ToldRenamed _ _, (refl, refl)))) (λ other.
+      unless_ends Telling volume (climb_fault (met_above r found.fileid found.node)) _
+      (if_by Telling volume (not (may_go found.node t)) _ _ (fails _ _ model.Exists) (λ may.
+      renamed_ends r (renamed_volume r found.fileid t)
+      (others volume (renamed_volume r found.fileid t) refl refl refl (λ l. l)
+      (λ l. renamed_below volume.next r found.fileid t volume.nodes (child_there volume (find_name b e.list) t g) l)
+      (λ l. renamed_agrees volume from to d e a b moment at_from at_to l x.0 found.fileid t (find_name b e.list) x.1.0 x.1.1 refl g other
+      (goes_empty found.node t may))))))
+
+  rename_in_ends : Ends Telling volume (rename_in r)
+  rename_in_ends =
+      unless_ends Telling volume (name_fault a) _
+      (unless_ends Telling volume (name_fault b) _
+      (if_ends Telling volume _ _ _ (fails _ _ _) (rename_at_ends (named_child r.from) (named_child r.to) refl refl)))
 
 pub rename_ends : (from_name to_name : List ℕ) (moment : model.Moment) (volume : VolumeState) (from to : ℕ)
     → Ends Telling volume (rename from_name to_name moment volume from to)
 rename_ends from_name to_name moment volume from to =
     directory_ends Telling volume (get volume.nodes from) _ (λ d at_from.
     directory_ends Telling volume (get volume.nodes to) _ (λ e at_to.
-    rename_in_ends (record {
-      from = record { volume = volume; fileid = from; directory = d; name = from_name; moment = moment };
-      to = record { volume = volume; fileid = to; directory = e; name = to_name; moment = moment };
-    })))
+    rename_in_ends volume from to d e from_name to_name moment at_from at_to))
 
 -- ---- procedures that only tell
 
@@ -304,6 +464,22 @@ module _ (Q : Fact) (stays : (volume : VolumeState) (answer : model.Answer) → 
   pub found_ends : (n : Naming) (o : Option Found) → Ends Q n.volume (lookup_told n o)
   found_ends n None = fails _ _ _
   found_ends n (Some found) = stays_told n.volume _
+
+  symbolic_ends : (volume : VolumeState) (special : model.SpecialType) (x : Effect) → Ends Q volume x → Ends Q volume (if_symbolic special x)
+  symbolic_ends volume model.SymbolicLink x f = f
+  symbolic_ends volume model.Fifo x f = fails Q volume model.Invalid
+  symbolic_ends volume model.Socket x f = fails Q volume model.Invalid
+  symbolic_ends volume (model.BlockDevice device) x f = fails Q volume model.Invalid
+  symbolic_ends volume (model.CharacterDevice device) x f = fails Q volume model.Invalid
+
+  on_symbolic_ends : (volume : VolumeState) (node : Node) (run : SpecialNode → Effect) → ((s : SpecialNode) → Ends Q volume (run s))
+      → Ends Q volume (on_symbolic node run)
+  on_symbolic_ends volume (File f) run g = fails Q volume model.Invalid
+  on_symbolic_ends volume (Directory d) run g = fails Q volume model.Invalid
+  on_symbolic_ends volume (Special s) run g = symbolic_ends volume s.special _ (g s)
+
+  pub readlink_ends : (volume : VolumeState) (fileid : ℕ) → Ends Q volume (readlink volume fileid)
+  readlink_ends volume fileid = node_ends Q volume (get volume.nodes fileid) _ (λ node e. on_symbolic_ends volume node _ (λ s. stays_told volume _))
 
   pub read_ends : (offset count : ℕ) (volume : VolumeState) (fileid : ℕ) → Ends Q volume (read offset count volume fileid)
   read_ends offset count volume fileid =
@@ -358,7 +534,8 @@ keeping volume answer = same volume
 write_some_ends : (volume : VolumeState) (fileid : ℕ) (f : FileNode) (w : Writing) → get volume.nodes fileid ≡ Some (File f)
     → Ends Keeping volume (write_some volume fileid f w)
 write_some_ends volume fileid f w e =
-    unless_ends Keeping volume _ _ (unless_ends Keeping volume _ _ (changes Keeping _ _ _ refl (another volume fileid (File f) _ e)))
+    unless_ends Keeping volume _ _ (unless_ends Keeping volume _ _ (changes Keeping _ _ _ refl (another volume fileid (File f) _ e
+    (written_alike fileid w.caller f w.offset _ w.moment))))
 
 pub write_ends : (w : Writing) (volume : VolumeState) (fileid : ℕ) → Ends Keeping volume (write w volume fileid)
 write_ends w volume fileid =

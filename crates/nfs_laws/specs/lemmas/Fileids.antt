@@ -10,6 +10,7 @@ use Rattle.std.specs.FinMap.{get, insert, remove, get-insert, get-remove, nat_cm
 use Rattle.nfs_model.specs.Types as model
 use Rattle.nfs_model.specs.Server.{DirectoryNode, Node, VolumeState}
 use Rattle.nfs_model.specs.Locate.{Found, found_at, child, Naming}
+use Rattle.nfs_model.specs.Serial.Links.{without_link, node_left}
 use Rattle.nfs_model.specs.Serial.Rename.{Renaming, Nodes, changed_node, in_directory, moved_node, without_entry, with_entry, without_target, renamed_nodes}
 
 -- every fileid of these nodes is below a number
@@ -38,6 +39,10 @@ pub remove_below : (next : ℕ) (nodes : Nodes) (k : ℕ) → AreBelow next node
 remove_below next nodes k all x node e =
     gone_below (is_eq (nat_cmp x k)) next x (get nodes x) node (all x node) (sym (get-remove nat_cmp_total nodes k x) ∙ e)
 
+pub left_below : (next : ℕ) (nodes : Nodes) (k : ℕ) (left : Option Node) → nat_lt k next ≡ true → AreBelow next nodes → AreBelow next (node_left nodes k left)
+left_below next nodes k None b all = remove_below next nodes k all
+left_below next nodes k (Some node) b all = insert_below next nodes k node b all
+
 changed_below : (next : ℕ) (change : Node → Node) (k : ℕ) (o : Option Node) (nodes : Nodes) → get nodes k ≡ o → AreBelow next nodes
     → AreBelow next (changed_node change k o nodes)
 changed_below next change k None nodes e all = all
@@ -58,18 +63,25 @@ entry_below : (next : ℕ) (change : DirectoryNode → DirectoryNode) (k : ℕ) 
     → AreBelow next (changed_node (in_directory change) k (get nodes k) nodes)
 entry_below next change k nodes all = changed_below next (in_directory change) k (get nodes k) nodes refl all
 
-target_below : (next : ℕ) (to : Naming) (target : Option Found) (nodes : Nodes) → AreBelow next nodes → AreBelow next (without_target to target nodes)
-target_below next to None nodes all = all
-target_below next to (Some target) nodes all = entry_below next _ to.fileid (remove nodes target.fileid) (remove_below next nodes target.fileid all)
+-- what is found is there
+abbrev pub AreThere : Nodes → Option Found → Type 0
+AreThere nodes None = Unit {0}
+AreThere nodes (Some found) = get nodes found.fileid ≡ Some found.node
 
-pub renamed_below : (next : ℕ) (r : Renaming) (k : ℕ) (target : Option Found) (nodes : Nodes) → AreBelow next nodes
+target_below : (next : ℕ) (to : Naming) (target : Option Found) (nodes : Nodes) → AreThere nodes target → AreBelow next nodes
+    → AreBelow next (without_target to target nodes)
+target_below next to None nodes there all = all
+target_below next to (Some target) nodes there all =
+    entry_below next _ to.fileid _ (left_below next nodes target.fileid (without_link to.moment target.node) (all target.fileid target.node there) all)
+
+pub renamed_below : (next : ℕ) (r : Renaming) (k : ℕ) (target : Option Found) (nodes : Nodes) → AreThere nodes target → AreBelow next nodes
     → AreBelow next (renamed_nodes r k target nodes)
-renamed_below next r k target nodes all =
+renamed_below next r k target nodes there all =
     let one : Nodes = without_target r.to target nodes in
     let two : Nodes = without_entry r.from one in
     let three : Nodes = with_entry r.to k two in
     changed_below next (moved_node r.to.fileid r.to.moment) k (get three k) three refl
-    (entry_below next _ r.to.fileid two (entry_below next _ r.from.fileid one (target_below next r.to target nodes all)))
+    (entry_below next _ r.to.fileid two (entry_below next _ r.from.fileid one (target_below next r.to target nodes there all)))
 
 -- ---- what names stand for
 
@@ -85,3 +97,7 @@ pub found_there : (volume : VolumeState) (o : Option model.Listed) (found : Foun
     → get volume.nodes found.fileid ≡ Some found.node
 found_there volume None found e = absurd cc
 found_there volume (Some x) found e = found_node x.fileid volume (get volume.nodes x.fileid) found refl e
+
+pub child_there : (volume : VolumeState) (o : Option model.Listed) (x : Option Found) → child volume o ≡ x → AreThere volume.nodes x
+child_there volume o None e = tt
+child_there volume o (Some found) e = found_there volume o found e

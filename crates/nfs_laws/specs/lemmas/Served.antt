@@ -13,14 +13,16 @@ use Rattle.nfs_model.specs.Serial.Access.{access_given}
 use Rattle.nfs_model.specs.Serial.Lookup.{looked_up, lookup}
 use Rattle.nfs_model.specs.Serial.Create.{create}
 use Rattle.nfs_model.specs.Serial.Mkdir.{mkdir}
+use Rattle.nfs_model.specs.Serial.Symlink.{symlink}
+use Rattle.nfs_model.specs.Serial.Mknod.{mknod}
 use Rattle.nfs_model.specs.Serial.Remove.{remove_name}
 use Rattle.nfs_model.specs.Serial.Rmdir.{rmdir}
 use Rattle.nfs_model.specs.Serial.Mount.{parts_below}
 use Rattle.nfs_model.specs.Serial.Grow.{Grown, grown, grow_volume}
 use Rattle.nfs_model.specs.Serial.Step.{Step, stay, placed, on, on_root, on_two, serve}
 use Rattle.nfs_laws.specs.Repeated.{is_success, volume_of}
-use Rattle.nfs_laws.specs.lemmas.Effects.{Ends, Keeping, Telling, keeping, permitted_ends, permitted_two_ends, name_ends, tell_ends, getattr_ends, found_ends, read_ends, write_ends, setattr_ends}
-use Rattle.nfs_laws.specs.lemmas.Effects.{create_ends, mkdir_ends, remove_ends, rmdir_ends, rename_ends, readdir_ends, readdirplus_ends, fsstat_ends}
+use Rattle.nfs_laws.specs.lemmas.Effects.{Ends, Keeping, Telling, keeping, permitted_ends, permitted_two_ends, name_ends, tell_ends, getattr_ends, found_ends, readlink_ends, read_ends, write_ends, setattr_ends}
+use Rattle.nfs_laws.specs.lemmas.Effects.{create_ends, mkdir_ends, symlink_ends, mknod_ends, remove_ends, rmdir_ends, rename_ends, link_ends, readdir_ends, readdirplus_ends, fsstat_ends}
 use Rattle.nfs_laws.specs.lemmas.Effects.{commit_ends, mount_below_ends}
 
 -- ---- handles
@@ -34,10 +36,14 @@ abbrev pub is_good : Server → model.Call → Bool
 is_good server (model.Setattr handle set guard) = names_one server handle
 is_good server (model.Create directory name mode) = names_one server directory
 is_good server (model.Mkdir directory name set) = names_one server directory
+is_good server (model.Symlink directory name set text) = names_one server directory
+is_good server (model.Mknod directory name kind set) = names_one server directory
 is_good server (model.Remove directory name) = names_one server directory
 is_good server (model.Rmdir directory name) = names_one server directory
 is_good server (model.Rename from from_name to to_name) =
     names_one server from && (names_one server to && ((named_read from).volume == (named_read to).volume))
+is_good server (model.Link handle directory name) =
+    names_one server handle && (names_one server directory && ((named_read handle).volume == (named_read directory).volume))
 is_good server call = false
 
 -- what is located is a volume of the server, which the handle names
@@ -68,9 +74,12 @@ abbrev pub first_handle : model.Call → List ℕ
 first_handle (model.Setattr handle set guard) = handle
 first_handle (model.Create directory name mode) = directory
 first_handle (model.Mkdir directory name set) = directory
+first_handle (model.Symlink directory name set text) = directory
+first_handle (model.Mknod directory name kind set) = directory
 first_handle (model.Remove directory name) = directory
 first_handle (model.Rmdir directory name) = directory
 first_handle (model.Rename from from_name to to_name) = from
+first_handle (model.Link handle directory name) = handle
 first_handle call = []
 
 of_case : (b : Bool) (x change : Change) → cond b (Some x) None ≡ Some change → volume_of change ≡ volume_of x
@@ -81,9 +90,12 @@ pub volume_first : (call : model.Call) (change : Change) → change_of call ≡ 
 volume_first (model.Setattr handle set guard) change e = of_case _ _ change e
 volume_first (model.Create directory name mode) change e = of_case _ _ change e
 volume_first (model.Mkdir directory name set) change e = of_case _ _ change e
+volume_first (model.Symlink directory name set text) change e = of_case _ _ change e
+volume_first (model.Mknod directory name kind set) change e = of_case _ _ change e
 volume_first (model.Remove directory name) change e = of_case _ _ change e
 volume_first (model.Rmdir directory name) change e = of_case _ _ change e
 volume_first (model.Rename from from_name to to_name) change e = of_case _ _ change e
+volume_first (model.Link handle directory name) change e = of_case _ _ change e
 volume_first call change e = absurd cc
 
 -- ---- the ways that a call can end
@@ -186,6 +198,8 @@ served server (model.Lookup directory name) who moment P w =
 served server (model.CheckAccess handle asked) who moment P w =
     on_plain server (model.CheckAccess handle asked) who moment P w _ handle _ _ refl (located server handle)
     (λ v f. tell_ends Keeping keeping (λ object. model.AccessDone object (access_given who asked object)) v f)
+served server (model.Readlink handle) who moment P w =
+    on_plain server (model.Readlink handle) who moment P w _ handle _ _ refl (located server handle) (readlink_ends Keeping keeping)
 served server (model.Read handle offset count) who moment P w =
     on_plain server (model.Read handle offset count) who moment P w _ handle _ _ refl (located server handle)
     (permitted_ends Keeping who (model.Read handle offset count) _ (read_ends Keeping keeping offset count))
@@ -200,6 +214,14 @@ served server (model.Create directory name mode) who moment P w =
 served server (model.Mkdir directory name set) who moment P w =
     on_kept server (model.Mkdir directory name set) who moment P w _ directory _ _ refl refl (located server directory)
     (permitted_ends Telling who (model.Mkdir directory name set) _ (λ v f. name_ends Telling name moment (mkdir set who) v f (mkdir_ends set who)))
+served server (model.Symlink directory name set text) who moment P w =
+    on_kept server (model.Symlink directory name set text) who moment P w _ directory _ _ refl refl (located server directory)
+    (permitted_ends Telling who (model.Symlink directory name set text) _
+    (λ v f. name_ends Telling name moment (symlink set text who) v f (symlink_ends set text who)))
+served server (model.Mknod directory name kind set) who moment P w =
+    on_kept server (model.Mknod directory name kind set) who moment P w _ directory _ _ refl refl (located server directory)
+    (permitted_ends Telling who (model.Mknod directory name kind set) _
+    (λ v f. name_ends Telling name moment (mknod kind set who) v f (mknod_ends kind set who)))
 served server (model.Remove directory name) who moment P w =
     on_kept server (model.Remove directory name) who moment P w _ directory _ _ refl refl (located server directory)
     (permitted_ends Telling who (model.Remove directory name) _ (λ v f. name_ends Telling name moment remove_name v f remove_ends))
@@ -209,6 +231,9 @@ served server (model.Rmdir directory name) who moment P w =
 served server (model.Rename from from_name to to_name) who moment P w =
     two_kept server (model.Rename from from_name to to_name) who moment P w _ from to _ _ _ refl refl (located server from) (located server to)
     (permitted_two_ends Telling who (model.Rename from from_name to to_name) _ (rename_ends from_name to_name moment))
+served server (model.Link handle directory name) who moment P w =
+    two_kept server (model.Link handle directory name) who moment P w _ handle directory _ _ _ refl refl (located server handle) (located server directory)
+    (permitted_two_ends Telling who (model.Link handle directory name) _ (link_ends name moment))
 served server (model.Readdir directory cookie verifier count) who moment P w =
     on_plain server (model.Readdir directory cookie verifier count) who moment P w _ directory _ _ refl (located server directory)
     (permitted_ends Keeping who (model.Readdir directory cookie verifier count) _ (readdir_ends Keeping keeping cookie verifier count))
@@ -227,7 +252,6 @@ served server (model.Pathconf handle) who moment P w =
 served server (model.Commit handle) who moment P w =
     on_plain server (model.Commit handle) who moment P w _ handle _ _ refl (located server handle)
     (permitted_ends Keeping who (model.Commit handle) _ (commit_ends Keeping keeping))
-served server (model.Unsupported which) who moment P w = stays server (model.Unsupported which) who moment P w refl _
 served server model.Census who moment P w = stays server model.Census who moment P w refl _
 served server (model.Grow volume ranges) who moment P w =
     grow_ways server (model.Grow volume ranges) who moment P w volume (slice_get server.volumes volume) ranges refl refl

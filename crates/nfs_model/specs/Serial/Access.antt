@@ -1,7 +1,7 @@
 -- ACCESS (RFC 1813 section 3.3.4): of the rights that are asked for, those that the mode gives the caller. It tells, and guards nothing:
 -- Permission has what each call needs.
 use Rattle.std.specs.Prelude.{ℕ, ◌+◌, Bool, not, ◌&&◌, ◌||◌, if◌then◌else◌}
-use Rattle.nfs_model.specs.Types.{Caller, Kind, Regular, DirectoryKind, Shown, AccessDone}
+use Rattle.nfs_model.specs.Types.{Caller, SpecialType, SymbolicLink, Kind, Regular, DirectoryKind, SpecialKind, Shown, AccessDone}
 use Rattle.nfs_model.specs.Server.{VolumeState}
 use Rattle.nfs_model.specs.Locate.{Effect}
 use Rattle.nfs_model.specs.Serial.Getattr.{tell_of}
@@ -21,12 +21,19 @@ writes_given caller r = r.writes && not caller.reads_only
 abbrev pub changes_given : Caller → Rights → Bool
 changes_given caller r = writes_given caller r && (r.executes || not caller.checked)
 
--- READ 1, LOOKUP 2, MODIFY 4, EXTEND 8, DELETE 16 and EXECUTE 32: LOOKUP and DELETE of a directory
--- alone, EXECUTE of a file alone
+-- READ 1, MODIFY 4, EXTEND 8 and EXECUTE 32, of all but directories
+abbrev pub bits_of_file : ℕ → Rights → Bool → ℕ
+bits_of_file asked r writes = bit_given asked 1 r.reads + bit_given asked 4 writes + bit_given asked 8 writes + bit_given asked 32 r.executes
+
+-- What is written to a FIFO, a socket or a device changes nothing here, so that w of it is given to who may change nothing too.
+abbrev pub special_writes : Caller → SpecialType → Rights → Bool
+special_writes caller SymbolicLink r = writes_given caller r
+special_writes caller special r = r.writes
+
+-- LOOKUP 2 and DELETE 16 besides, and not EXECUTE, of a directory
 abbrev pub bits_given : Caller → ℕ → Kind → Rights → ℕ
-bits_given caller asked Regular r =
-    bit_given asked 1 r.reads + bit_given asked 4 (writes_given caller r) + bit_given asked 8 (writes_given caller r)
-    + bit_given asked 32 r.executes
+bits_given caller asked Regular r = bits_of_file asked r (writes_given caller r)
+bits_given caller asked (SpecialKind special) r = bits_of_file asked r (special_writes caller special r)
 bits_given caller asked DirectoryKind r =
     bit_given asked 1 r.reads + bit_given asked 2 r.executes + bit_given asked 4 (changes_given caller r)
     + bit_given asked 8 (changes_given caller r) + bit_given asked 16 (changes_given caller r)

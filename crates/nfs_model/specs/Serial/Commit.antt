@@ -7,7 +7,7 @@ use Rattle.nfs_model.specs.Server.{File, VolumeState}
 use Rattle.nfs_model.specs.Shown.{wcc}
 use Rattle.nfs_model.specs.Locate.{Effect, Tells, on_file}
 
--- STALE, INVAL for a directory
+-- STALE, INVAL for all but a regular file
 abbrev pub commit : VolumeState → ℕ → Effect
 commit volume fileid =
     on_file (get volume.nodes fileid) (λ f.

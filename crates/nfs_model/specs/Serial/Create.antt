@@ -1,10 +1,11 @@
--- CREATE (RFC 1813 section 3.3.8), and what it shares with MKDIR.
+-- CREATE (RFC 1813 section 3.3.8), and what it shares with MKDIR, SYMLINK and MKNOD.
 use Rattle.std.specs.Prelude.{ℕ, ◌+◌, nat_le, Bool, false, not, ◌==◌, ◌&&◌, ◌||◌, List, replicate, Option, Some, None, is_none, if◌then◌else◌}
 use Rattle.std.specs.FinMap.{insert, len}
 use Rattle.std.specs.FinSet as sets
 use Rattle.nfs_model.specs.Types.{Moment, Credential, Caller, SetAttributes, Keep, CreateMode, Unchecked, Guarded, Kind, Regular, DirectoryKind}
+use Rattle.nfs_model.specs.Types.{SpecialKind}
 use Rattle.nfs_model.specs.Types.{Exclusive, Answer, MadeDone, Status, Exists, Invalid, TooBig, NoSpace}
-use Rattle.nfs_model.specs.Server.{Attributes, FileNode, Node, File, Directory, VolumeState, handle_bytes}
+use Rattle.nfs_model.specs.Server.{Attributes, FileNode, Node, File, Directory, Special, VolumeState, handle_bytes}
 use Rattle.nfs_model.specs.Shown.{shown, wcc}
 use Rattle.nfs_model.specs.Names.{same_name, is_dots, with_name}
 use Rattle.nfs_model.specs.Locate.{Effect, Fails, Tells, Changes, unless, Found, Naming, named_child}
@@ -12,7 +13,7 @@ use Rattle.nfs_model.specs.Serial.Setattr.{has_bad_time, is_past, given, given_m
 use Rattle.nfs_model.specs.Serial.Setattr.{setattr_fault, set_taken, with_node}
 use Rattle.nfs_model.specs.Serial.Rights.{Protection, protected, with_bit, gives_group, group_made, is_in_group, mode_of_group}
 
--- ---- what CREATE and MKDIR share
+-- ---- what procedures that make a node share
 
 -- sattr3 that gives nothing
 abbrev pub no_attributes : SetAttributes
@@ -38,13 +39,14 @@ made_gid set m =
     if m.caller.checked then checked_gid set.gid m.caller.credential (protected DirectoryKind m.directory)
     else given set.gid m.caller.credential.gid
 
--- the mode of what is made in a group, where callers are checked: a directory hands 02000 on to directories; to a file only those of the
+-- the mode of what is made in a group, where callers are checked: a directory hands 02000 on to directories; to all else only those of the
 -- group give it
 abbrev pub checked_mode : Maker → Kind → ℕ → ℕ → ℕ
 checked_mode m Regular gid mode = mode_of_group m.caller.credential gid mode
 checked_mode m DirectoryKind gid mode =
     if gives_group (protected DirectoryKind m.directory) then with_bit mode 1024
     else mode_of_group m.caller.credential gid mode
+checked_mode m (SpecialKind special) gid mode = mode_of_group m.caller.credential gid mode
 
 abbrev pub made_mode : Maker → Kind → ℕ → ℕ → ℕ
 made_mode m kind gid mode = if m.caller.checked then checked_mode m kind gid mode else mode
@@ -123,6 +125,7 @@ is_verifier (Some v) verifier = same_name v verifier
 abbrev pub create_over : Naming → CreateMode → Caller → ℕ → Node → Effect
 create_over n (Guarded set) caller fileid node = Fails Exists
 create_over n mode caller fileid (Directory other) = Fails Exists
+create_over n mode caller fileid (Special other) = Fails Exists
 create_over n (Exclusive verifier) caller fileid (File f) =
     if is_verifier f.verifier verifier then told_as_it_is n fileid (File f) else Fails Exists
 create_over n (Unchecked set) caller fileid (File f) =
@@ -159,6 +162,7 @@ new_file mode m moment = File (record {
   filled = sets.empty;
   touch = None;
   verifier = kept_verifier mode;
+  links = 1;
 })
 
 -- ---- the procedure

@@ -1,4 +1,4 @@
--- MKDIR (RFC 1813 section 3.3.9).
+-- MKDIR (RFC 1813 section 3.3.9), and what it shares with SYMLINK and MKNOD.
 use Rattle.std.specs.Prelude.{ℕ, [], Option, Some, None, is_some, if◌then◌else◌}
 use Rattle.nfs_model.specs.Types.{Moment, Caller, SetAttributes, DirectoryKind, Status, Exists, Invalid, NoSpace}
 use Rattle.nfs_model.specs.Server.{Node, Directory, VolumeState}
@@ -7,7 +7,7 @@ use Rattle.nfs_model.specs.Locate.{Effect, Fails, unless, Found, Naming, named_c
 use Rattle.nfs_model.specs.Serial.Setattr.{has_bad_time}
 use Rattle.nfs_model.specs.Serial.Create.{Maker, maker, new_attributes, is_full, made}
 
--- the first check that fails: the times, a size, inodes
+-- the first check that fails of attributes for what has no size to be set: the times, a size, inodes
 abbrev pub mkdir_fault : VolumeState → SetAttributes → Option Status
 mkdir_fault volume set =
     if has_bad_time set then Some Invalid

@@ -23,7 +23,7 @@ abbrev pub search_refusal : Caller → DirectoryNode → Option Status
 search_refusal caller d = refusal_of caller false (needs (may_search caller.credential (protection (Directory d))))
 
 -- The handle of the directory to which these parts lead from a node: NOTDIR where one on the way, or the last, is
--- none; ACCES where one on the way may not be searched.
+-- none, as a symbolic link; ACCES where one on the way may not be searched.
 abbrev pub mount_below : List (List ℕ) → Caller → VolumeState → ℕ → Effect
 mount_below [] caller volume fileid =
     on_directory (get volume.nodes fileid) (λ d. Tells (MountDone (handle_bytes volume.number fileid)))

@@ -2,14 +2,15 @@
 -- where is our profile).
 use Rattle.std.specs.Prelude.{ℕ, ◌+◌, ◌%◌, Bool, ◌&&◌, ◌==◌, nat_le, List, Option, Some, None, length, slice_index_or, slice_set}
 use Rattle.std.specs.Prelude.{if◌then◌else◌}
-use Rattle.nfs_model.specs.Types.{Moment, Caller, Call, Setattr, Create, Mkdir, Remove, Rmdir, Rename}
-use Rattle.nfs_model.specs.Types.{Answer, SetattrDone, MadeDone, GoneDone, RenameDone}
-use Rattle.nfs_model.specs.Memo.{Change, Sets, Creates, MakesDirectory, Removes, RemovesDirectory, Renames}
-use Rattle.nfs_model.specs.Memo.{Told, ToldSet, ToldMade, ToldGone, ToldRenamed, Memo}
+use Rattle.nfs_model.specs.Types.{Moment, Caller, Call, Setattr, Create, Mkdir, Symlink, Mknod, Remove, Rmdir, Rename, Link}
+use Rattle.nfs_model.specs.Types.{Answer, SetattrDone, MadeDone, GoneDone, RenameDone, LinkDone}
+use Rattle.nfs_model.specs.Memo.{Change, Sets, Creates, MakesDirectory, MakesSymbolicLink, MakesNode, Removes, RemovesDirectory, Renames, Links}
+use Rattle.nfs_model.specs.Memo.{Told, ToldSet, ToldMade, ToldGone, ToldRenamed, ToldLinked, Memo}
 use Rattle.nfs_model.specs.Server.{VolumeState, handle_bytes}
 use Rattle.nfs_model.specs.Shown.{moment_le}
 use Rattle.nfs_model.specs.Locate.{Effect, Fails, Tells, Changes}
 use Rattle.nfs_model.specs.Serial.Same.{same_caller, same_change}
+use Rattle.nfs_model.specs.Serial.Symlink.{most_text}
 
 -- ---- which calls
 
@@ -17,15 +18,20 @@ use Rattle.nfs_model.specs.Serial.Same.{same_caller, same_change}
 abbrev pub is_short : List ℕ → List ℕ → Bool
 is_short handle name = (length handle == 12) && nat_le (length name) 255
 
--- What a call changes, if its reply is remembered. With another handle or a longer name it fails.
+-- What a call changes, if its reply is remembered. With another handle, a longer name or a longer text it fails.
 abbrev pub change_of : Call → Option Change
 change_of (Setattr handle set guard) = if length handle == 12 then Some (Sets handle set guard) else None
 change_of (Create directory name mode) = if is_short directory name then Some (Creates directory name mode) else None
 change_of (Mkdir directory name set) = if is_short directory name then Some (MakesDirectory directory name set) else None
+change_of (Symlink directory name set text) =
+    if is_short directory name && nat_le (length text) most_text then Some (MakesSymbolicLink directory name set text) else None
+change_of (Mknod directory name kind set) = if is_short directory name then Some (MakesNode directory name kind set) else None
 change_of (Remove directory name) = if is_short directory name then Some (Removes directory name) else None
 change_of (Rmdir directory name) = if is_short directory name then Some (RemovesDirectory directory name) else None
 change_of (Rename from from_name to to_name) =
     if is_short from from_name && is_short to to_name then Some (Renames from from_name to to_name) else None
+change_of (Link handle directory name) =
+    if (length handle == 12) && is_short directory name then Some (Links handle directory name) else None
 change_of call = None
 
 -- ---- what is told again
@@ -62,6 +68,7 @@ answer_told number (ToldSet change) = SetattrDone change
 answer_told number (ToldMade object directory) = MadeDone (handle_bytes number object.fileid) object directory
 answer_told number (ToldGone directory) = GoneDone directory
 answer_told number (ToldRenamed from to) = RenameDone from to
+answer_told number (ToldLinked object directory) = LinkDone object directory
 
 -- ---- what is remembered
 
@@ -71,6 +78,7 @@ told_of (SetattrDone change) = Some (ToldSet change)
 told_of (MadeDone handle object directory) = Some (ToldMade object directory)
 told_of (GoneDone directory) = Some (ToldGone directory)
 told_of (RenameDone from to) = Some (ToldRenamed from to)
+told_of (LinkDone object directory) = Some (ToldLinked object directory)
 told_of answer = None
 
 -- the newest stays in its place; where there is no place, nothing is remembered

@@ -5,10 +5,12 @@ use Rattle.std.specs.Prelude.{ℕ, Bool, true, false, not, ◌&&◌, ◌||◌, �
 use Rattle.std.specs.FinMap.{get}
 use Rattle.nfs_model.specs.Types.{Credential, Caller, SetTime, Keep, ServerTime, ClientTime, SetAttributes}
 use Rattle.nfs_model.specs.Types.{CreateMode, Unchecked, Status, Access, NotPermitted, ReadOnly}
-use Rattle.nfs_model.specs.Types.{Call, Setattr, Lookup, Read, Write, Create, Mkdir, Remove, Rmdir, Rename, Readdir, Readdirplus, Commit}
-use Rattle.nfs_model.specs.Server.{DirectoryNode, Node, File, Directory, VolumeState}
-use Rattle.nfs_model.specs.Names.{is_dots, name_fault, find_name, same_name}
-use Rattle.nfs_model.specs.Locate.{Effect, unless, Found, child}
+use Rattle.nfs_model.specs.Types.{Kind, SpecialKind, BlockDevice, CharacterDevice}
+use Rattle.nfs_model.specs.Types.{Call, Setattr, Lookup, Read, Write, Create, Mkdir, Symlink, Mknod, Remove, Rmdir, Rename, Link, Readdir}
+use Rattle.nfs_model.specs.Types.{Readdirplus, Commit}
+use Rattle.nfs_model.specs.Server.{DirectoryNode, Node, File, Directory, Special, VolumeState}
+use Rattle.nfs_model.specs.Names.{is_dots, name_fault, find_name}
+use Rattle.nfs_model.specs.Locate.{Effect, unless, Found, child, is_node_of}
 use Rattle.nfs_model.specs.Serial.Rights.{Protection, protection, is_in_group, may_read, may_write, may_search, may_list}
 use Rattle.nfs_model.specs.Serial.Rights.{may_change, may_drop, rights_of}
 
@@ -39,12 +41,14 @@ abbrev pub of_file : Option Node → (Protection → Option Status) → Option S
 of_file None ask = None
 of_file (Some (File f)) ask = ask (protection (File f))
 of_file (Some (Directory d)) ask = None
+of_file (Some (Special s)) ask = None
 
 -- asked of a directory
 abbrev pub of_directory : Option Node → (DirectoryNode → Option Status) → Option Status
 of_directory None ask = None
 of_directory (Some (File f)) ask = None
 of_directory (Some (Directory d)) ask = ask d
+of_directory (Some (Special s)) ask = None
 
 -- ---- attributes
 
@@ -95,6 +99,18 @@ abbrev pub new_refusal : Credential → Protection → Option Found → Option S
 new_refusal who directory None = needs (may_change who directory)
 new_refusal who directory (Some found) = None
 
+-- a device is for uid 0 to make (POSIX, mknod)
+abbrev pub is_device : Kind → Bool
+is_device (SpecialKind (BlockDevice device)) = true
+is_device (SpecialKind (CharacterDevice device)) = true
+is_device kind = false
+
+-- MKNOD (section 3.3.11)
+abbrev pub mknod_refusal : Credential → Kind → Protection → Option Found → Option Status
+mknod_refusal who kind directory None =
+    then_asks (new_refusal who directory None) (reserved (not (is_device kind) || (who.uid == 0)))
+mknod_refusal who kind directory (Some found) = None
+
 -- UNCHECKED over a file that is there sets the size alone
 abbrev pub over_refusal : Credential → CreateMode → Node → Option Status
 over_refusal who (Unchecked set) (File f) = needs (is_none set.size || may_write who (protection (File f)))
@@ -120,17 +136,15 @@ target_refusal who directory (Some found) = gone_refusal who directory (Some fou
 abbrev pub moved_refusal : Credential → Bool → Node → Option Status
 moved_refusal who stays (File f) = None
 moved_refusal who stays (Directory d) = needs (stays || (rights_of who (protection (Directory d))).writes)
+moved_refusal who stays (Special s) = None
 
--- what moves: its name goes, the other comes
+-- what moves: its name goes, the other comes; nothing where both names are of one node
 abbrev pub move_refusal : Credential → Bool → Protection → Protection → Option Found → Option Found → Option Status
 move_refusal who stays from to None target = None
 move_refusal who stays from to (Some found) target =
-    then_asks (gone_refusal who from (Some found))
+    if is_node_of found.fileid target then None
+    else then_asks (gone_refusal who from (Some found))
     (then_asks (target_refusal who to target) (moved_refusal who stays found.node))
-
--- both names are of one entry, which a RENAME leaves as it is
-abbrev pub is_one_entry : ℕ → List ℕ → ℕ → List ℕ → Bool
-is_one_entry from from_name to to_name = (from == to) && same_name from_name to_name
 
 -- RENAME (section 3.3.14): both directories are to be searched before anything is asked of the names
 abbrev pub rename_refusal : Credential → List ℕ → List ℕ → VolumeState → ℕ → ℕ → Option Status
@@ -138,9 +152,14 @@ rename_refusal who from_name to_name volume from to =
     of_directory (get volume.nodes from) (λ d. of_directory (get volume.nodes to) (λ e.
     then_asks (needs (may_search who (protection (Directory d))))
     (then_asks (needs (may_search who (protection (Directory e))))
-    (if is_no_child from_name || is_no_child to_name || is_one_entry from from_name to to_name then None
+    (if is_no_child from_name || is_no_child to_name then None
     else move_refusal who (from == to) (protection (Directory d)) (protection (Directory e))
     (child volume (find_name from_name d.list)) (child volume (find_name to_name e.list))))))
+
+-- LINK (section 3.3.15): a new name, of what is there
+abbrev pub link_refusal : Credential → List ℕ → VolumeState → ℕ → ℕ → Option Status
+link_refusal who name volume fileid directory =
+    of_node (get volume.nodes fileid) (λ object. of_name who name volume directory (new_refusal who))
 
 -- ---- calls
 
@@ -150,16 +169,20 @@ is_change (Setattr handle set guard) = true
 is_change (Write handle offset count written) = true
 is_change (Create directory name mode) = true
 is_change (Mkdir directory name set) = true
+is_change (Symlink directory name set text) = true
+is_change (Mknod directory name kind set) = true
 is_change (Remove directory name) = true
 is_change (Rmdir directory name) = true
 is_change (Rename from from_name to to_name) = true
+is_change (Link handle directory name) = true
 is_change call = false
 
 -- WRITE to a file
 abbrev pub write_rights : Credential → Protection → Option Status
 write_rights who file = needs (may_write who file)
 
--- A call on a node and, of a RENAME, on another, by its procedure. GETATTR, ACCESS, FSSTAT, FSINFO and PATHCONF need no right.
+-- A call on a node and, of RENAME and LINK, on another, by its procedure. GETATTR, READLINK, ACCESS, FSSTAT, FSINFO and PATHCONF need no
+-- right.
 abbrev pub refusal_by : Credential → Call → VolumeState → ℕ → ℕ → Option Status
 refusal_by who (Setattr handle set guard) volume fileid other = of_node (get volume.nodes fileid) (set_refusal who set)
 refusal_by who (Lookup directory name) volume fileid other =
@@ -169,9 +192,12 @@ refusal_by who (Read handle offset count) volume fileid other =
 refusal_by who (Write handle offset count written) volume fileid other = of_file (get volume.nodes fileid) (write_rights who)
 refusal_by who (Create directory name mode) volume fileid other = of_name who name volume fileid (create_refusal who mode)
 refusal_by who (Mkdir directory name set) volume fileid other = of_name who name volume fileid (new_refusal who)
+refusal_by who (Symlink directory name set text) volume fileid other = of_name who name volume fileid (new_refusal who)
+refusal_by who (Mknod directory name kind set) volume fileid other = of_name who name volume fileid (mknod_refusal who kind)
 refusal_by who (Remove directory name) volume fileid other = of_name who name volume fileid (gone_refusal who)
 refusal_by who (Rmdir directory name) volume fileid other = of_name who name volume fileid (gone_refusal who)
 refusal_by who (Rename from from_name to to_name) volume fileid other = rename_refusal who from_name to_name volume fileid other
+refusal_by who (Link handle directory name) volume fileid other = link_refusal who name volume fileid other
 refusal_by who (Readdir directory cookie verifier count) volume fileid other =
     of_directory (get volume.nodes fileid) (λ d. needs (may_list who (protection (Directory d))))
 refusal_by who (Readdirplus directory cookie verifier names_count count) volume fileid other =
@@ -198,6 +224,6 @@ write_refusal caller file = refusal_of caller true (write_rights caller.credenti
 abbrev pub permitted : Caller → Call → (VolumeState → ℕ → Effect) → VolumeState → ℕ → Effect
 permitted caller call run volume fileid = unless (refusal caller call volume fileid 0) (run volume fileid)
 
--- and RENAME, which is on two
+-- and RENAME and LINK, which are on two
 abbrev pub permitted_two : Caller → Call → (VolumeState → ℕ → ℕ → Effect) → VolumeState → ℕ → ℕ → Effect
 permitted_two caller call run volume from to = unless (refusal caller call volume from to) (run volume from to)

@@ -13,7 +13,7 @@ bytes_at bytes offset count = take count (drop offset bytes)
 abbrev pub read_of : ℕ → ℕ → List ℕ → Answer
 read_of offset size bytes = ReadDone (length bytes) (nat_le size (offset + length bytes)) bytes
 
--- STALE, INVAL for a directory; at or past the end, nothing
+-- STALE, INVAL for all but a regular file; at or past the end, nothing
 abbrev pub read : ℕ → ℕ → VolumeState → ℕ → Effect
 read offset count volume fileid = on_file (get volume.nodes fileid) (λ f.
     if nat_le (length f.bytes) offset then Tells (ReadDone 0 true [])

@@ -1,14 +1,15 @@
 -- RENAME (RFC 1813 section 3.3.14), inside one volume.
 use Rattle.std.specs.Prelude.{ℕ, zero, suc, Bool, true, false, not, ◌&&◌, ◌||◌, ◌==◌, List, [], ◌∷◌, Option}
-use Rattle.std.specs.Prelude.{Some, None, if◌then◌else◌}
+use Rattle.std.specs.Prelude.{Some, None, is_some, is_none, if◌then◌else◌}
 use Rattle.std.specs.Ordering.{nat_cmp}
-use Rattle.std.specs.FinMap.{FinMap, get, insert, remove}
+use Rattle.std.specs.FinMap.{FinMap, get, insert}
 use Rattle.nfs_model.specs.Types.{Moment, Listed, RenameDone, Status, NoEntry, Invalid, Exists, NameTooLong, Wcc}
-use Rattle.nfs_model.specs.Server.{DirectoryNode, Node, File, Directory, VolumeState}
-use Rattle.nfs_model.specs.Shown.{settled, wcc}
-use Rattle.nfs_model.specs.Names.{same_name, is_dots, name_fault, dropped_name, with_name}
+use Rattle.nfs_model.specs.Server.{DirectoryNode, Node, File, Directory, Special, VolumeState}
+use Rattle.nfs_model.specs.Shown.{wcc}
+use Rattle.nfs_model.specs.Names.{is_dots, name_fault, dropped_name, with_name}
 use Rattle.nfs_model.specs.Locate.{Effect, Fails, Tells, Changes, unless, on_directory, Found, Naming}
-use Rattle.nfs_model.specs.Locate.{named_child}
+use Rattle.nfs_model.specs.Locate.{is_node_of, named_child}
+use Rattle.nfs_model.specs.Serial.Links.{changed_file, changed_special, without_link, node_left}
 
 -- two names of a volume's directories, which may be one directory; both have the call's moment
 pub record Renaming : Type 0 where
@@ -29,6 +30,7 @@ abbrev pub parent_above : ℕ → Option Node → Option ℕ
 parent_above fileid None = None
 parent_above fileid (Some (File f)) = None
 parent_above fileid (Some (Directory d)) = if d.parent == fileid then None else Some d.parent
+parent_above fileid (Some (Special s)) = None
 
 -- the way on from that parent; where there is none it is at its end
 abbrev pub on_parent : Option ℕ → (ℕ → Climb) → Climb
@@ -44,12 +46,13 @@ climb (suc n) volume target fileid =
     else on_parent (parent_above fileid (get volume.nodes fileid)) (climb n volume target)
 
 -- What is met above the directory into which a node comes. Where it stays in its directory nothing is
--- asked, and a file is above nothing.
+-- asked, and what isn't a directory is above nothing.
 abbrev pub met_above : Renaming → ℕ → Node → Climb
 met_above r fileid (File f) = PastIt
 met_above r fileid (Directory d) =
     if r.from.fileid == r.to.fileid then PastIt
     else climb r.from.volume.most_steps r.from.volume fileid r.to.fileid
+met_above r fileid (Special s) = PastIt
 
 -- what is wrong with it: a directory would come into itself or below itself, or so deep that it isn't
 -- known (our profile)
@@ -65,12 +68,17 @@ abbrev pub is_empty_list : List Listed → Bool
 is_empty_list [] = true
 is_empty_list (e ∷ es) = false
 
+-- a node that is a directory
+abbrev pub directory_in : Node → Option DirectoryNode
+directory_in (File f) = None
+directory_in (Directory d) = Some d
+directory_in (Special s) = None
+
 -- a node may take another's place: both aren't directories, or both are and the other is empty
 abbrev pub may_replace : Node → Node → Bool
-may_replace (File f) (File g) = true
-may_replace (File f) (Directory g) = false
-may_replace (Directory f) (File g) = false
-may_replace (Directory f) (Directory g) = is_empty_list g.list
+may_replace moved (File f) = is_none (directory_in moved)
+may_replace moved (Directory d) = is_some (directory_in moved) && is_empty_list d.list
+may_replace moved (Special s) = is_none (directory_in moved)
 
 -- the target may go, if there is one
 abbrev pub may_go : Node → Option Found → Bool
@@ -91,6 +99,7 @@ changed_node change fileid (Some node) nodes = insert nodes fileid (change node)
 abbrev pub in_directory : (DirectoryNode → DirectoryNode) → Node → Node
 in_directory change (File f) = File f
 in_directory change (Directory d) = Directory (change d)
+in_directory change (Special s) = Special s
 
 -- the entry of a name leaves its directory
 abbrev pub without_entry : Naming → Nodes → Nodes
@@ -102,17 +111,18 @@ abbrev pub with_entry : Naming → ℕ → Nodes → Nodes
 with_entry n child nodes =
     changed_node (in_directory (λ d. with_name d n.name child n.moment)) n.fileid (get nodes n.fileid) nodes
 
--- the target goes, with its entry
+-- the target loses its entry, and goes if that is its last
 abbrev pub without_target : Naming → Option Found → Nodes → Nodes
 without_target to None nodes = nodes
-without_target to (Some target) nodes = without_entry to (remove nodes target.fileid)
+without_target to (Some target) nodes =
+    without_entry to (node_left nodes target.fileid (without_link to.moment target.node))
 
 -- a file settles, a directory gets its new parent; ctime is set
 abbrev pub moved_node : ℕ → Moment → Node → Node
-moved_node parent moment (File f) =
-    File (record (settled f) { attributes = record (settled f).attributes { ctime = moment } })
+moved_node parent moment (File f) = File (changed_file moment f)
 moved_node parent moment (Directory d) =
     Directory (record d { parent = parent; attributes = record d.attributes { ctime = moment } })
+moved_node parent moment (Special s) = Special (changed_special moment s)
 
 -- the node that moves is below the directory of to
 abbrev pub with_moved : Naming → ℕ → Nodes → Nodes
@@ -145,22 +155,18 @@ directory_change n new =
 abbrev pub rename_told : Renaming → VolumeState → Effect
 rename_told r new = Changes (RenameDone (directory_change r.from new) (directory_change r.to new)) new
 
--- the same entry: OK, and nothing changes
+-- both names are of one node: OK, and nothing changes
 abbrev pub same_told : Renaming → Effect
 same_told r = Tells (RenameDone (directory_change r.from r.from.volume) (directory_change r.to r.to.volume))
 
 -- ---- the procedure
 
--- both names are of one entry
-abbrev pub is_same_entry : Renaming → Bool
-is_same_entry r = (r.from.fileid == r.to.fileid) && same_name r.from.name r.to.name
-
--- NOENT, the same entry, INVAL for a directory below itself, NAMETOOLONG for one that comes too deep, EXIST
+-- NOENT, two names of one node, INVAL for a directory below itself, NAMETOOLONG for one that comes too deep, EXIST
 -- for a target that may not go
 abbrev pub rename_at : Renaming → Option Found → Option Found → Effect
 rename_at r None target = Fails NoEntry
 rename_at r (Some found) target =
-    if is_same_entry r then same_told r
+    if is_node_of found.fileid target then same_told r
     else unless (climb_fault (met_above r found.fileid found.node))
     (if not (may_go found.node target) then Fails Exists
     else rename_told r (renamed_volume r found.fileid target))

@@ -2,8 +2,8 @@
 -- "File Access Permissions").
 use Rattle.std.specs.Prelude.{ℕ, ◌+◌, ◌-◌, ◌/◌, ◌%◌, ◌==◌, Bool, true, not, ◌&&◌, ◌||◌, if◌then◌else◌}
 use Rattle.std.specs.List.{list_any}
-use Rattle.nfs_model.specs.Types.{Credential, Ownership, Kind, Regular, DirectoryKind, Shown}
-use Rattle.nfs_model.specs.Server.{Attributes, Node, File, Directory}
+use Rattle.nfs_model.specs.Types.{Credential, Ownership, Kind, Regular, DirectoryKind, SpecialKind, Shown}
+use Rattle.nfs_model.specs.Server.{Attributes, Node, File, Directory, Special}
 
 -- whether a number has a bit, which is given by its value
 abbrev pub has_bit : ℕ → ℕ → Bool
@@ -36,6 +36,7 @@ protected kind a = owned kind (ownership_of a)
 abbrev pub protection : Node → Protection
 protection (File f) = protected Regular f.attributes
 protection (Directory d) = protected DirectoryKind d.attributes
+protection (Special s) = protected (SpecialKind s.special) s.attributes
 
 abbrev pub protection_shown : Shown → Protection
 protection_shown s = record { kind = s.kind; mode = s.mode; uid = s.uid; gid = s.gid }
@@ -62,10 +63,15 @@ digit_for who object =
     if who.uid == object.uid then (object.mode / 64) % 8
     else if is_in_group who object.gid then (object.mode / 8) % 8 else object.mode % 8
 
--- whether uid 0 may execute an object: a file where somebody may, and every directory
+-- whether somebody has x by a mode
+abbrev pub has_x : ℕ → Bool
+has_x mode = has_bit mode 64 || has_bit mode 8 || has_bit mode 1
+
+-- whether uid 0 may execute an object: every directory, and all else where somebody may
 abbrev pub is_executable : Kind → ℕ → Bool
-is_executable Regular mode = has_bit mode 64 || has_bit mode 8 || has_bit mode 1
+is_executable Regular mode = has_x mode
 is_executable DirectoryKind mode = true
+is_executable (SpecialKind special) mode = has_x mode
 
 -- uid 0 may do all but execute what nobody may
 abbrev pub rights_of : Credential → Protection → Rights

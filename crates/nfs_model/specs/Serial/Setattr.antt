@@ -5,7 +5,7 @@ use Rattle.std.specs.FinMap.{get, insert}
 use Rattle.std.specs.FinSet.{retain}
 use Rattle.nfs_model.specs.Types.{Moment, Credential, Caller, SetTime, Keep, ServerTime, ClientTime, SetAttributes, Status}
 use Rattle.nfs_model.specs.Types.{nanoseconds_of_a_second, NotSynchronous, Invalid, TooBig, SetattrDone}
-use Rattle.nfs_model.specs.Server.{Attributes, FileNode, Node, File, Directory, VolumeState, block_size}
+use Rattle.nfs_model.specs.Server.{Attributes, FileNode, Node, File, Directory, Special, VolumeState, block_size}
 use Rattle.nfs_model.specs.Shown.{same_moment, times, settled, wcc}
 use Rattle.nfs_model.specs.Locate.{Effect, Changes, on_node, unless}
 use Rattle.nfs_model.specs.Serial.Rights.{Protection, protection, without_set_ids, mode_of_group}
@@ -86,12 +86,16 @@ abbrev pub mode_taken : Credential → SetAttributes → Protection → Option �
 mode_taken who set object None = mode_kept who set object
 mode_taken who set object (Some mode) = Some (mode_of_group who (given set.gid object.gid) mode)
 
+-- where a caller is checked, the mode is that which it may give
+abbrev pub mode_checked : Caller → SetAttributes → Protection → SetAttributes
+mode_checked caller set object =
+    if caller.checked then record set { mode = mode_taken caller.credential set object set.mode } else set
+
 -- what is set of a node: of a directory, all that is given
 abbrev pub set_taken : Caller → SetAttributes → Node → SetAttributes
-set_taken caller set (File f) =
-    if caller.checked
-    then record set { mode = mode_taken caller.credential set (protection (File f)) set.mode } else set
+set_taken caller set (File f) = mode_checked caller set (protection (File f))
 set_taken caller set (Directory d) = set
+set_taken caller set (Special s) = mode_checked caller set (protection (Special s))
 
 -- ---- the procedure
 
@@ -100,17 +104,18 @@ abbrev pub is_stale_guard : Option Moment → Moment → Bool
 is_stale_guard None ctime = false
 is_stale_guard (Some g) ctime = not (same_moment g ctime)
 
--- a size for a directory
-abbrev pub is_sized_directory : Node → Option ℕ → Bool
-is_sized_directory (File f) size = false
-is_sized_directory (Directory d) size = is_some size
+-- a size for what isn't a regular file
+abbrev pub is_size_of_none : Node → Option ℕ → Bool
+is_size_of_none (File f) size = false
+is_size_of_none (Directory d) size = is_some size
+is_size_of_none (Special s) size = is_some size
 
--- the first check that fails: the guard, the times, a directory's size, the largest size
+-- the first check that fails: the guard, the times, a size of what has none to be set, the largest size
 abbrev pub setattr_fault : VolumeState → SetAttributes → Option Moment → Node → Option Status
 setattr_fault volume set guard node =
     if is_stale_guard guard (times node).ctime then Some NotSynchronous
     else if has_bad_time set then Some Invalid
-    else if is_sized_directory node set.size then Some Invalid
+    else if is_size_of_none node set.size then Some Invalid
     else if is_past set.size volume.largest then Some TooBig
     else None
 
@@ -119,6 +124,8 @@ abbrev pub set_node : SetAttributes → Moment → Node → Node
 set_node set moment (File f) = File (set_file set moment f)
 set_node set moment (Directory d) =
     Directory (record d { attributes = set_attributes set moment d.attributes })
+set_node set moment (Special s) =
+    Special (record s { attributes = set_attributes set moment s.attributes })
 
 -- a volume with another node at a fileid
 abbrev pub with_node : VolumeState → ℕ → Node → VolumeState

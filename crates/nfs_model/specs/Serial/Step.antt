@@ -2,9 +2,9 @@
 -- MOUNT; CENSUS, GROW and STOP are our profile).
 use Rattle.std.specs.Prelude.{ℕ, Bool, true, false, ◌==◌, length, Option, Some, None, if◌then◌else◌}
 use Rattle.nfs_model.specs.Types.{Moment, Caller, Call, Null, Getattr, Setattr, Lookup, CheckAccess}
-use Rattle.nfs_model.specs.Types.{Read, Write, Create, Mkdir, Remove, Rmdir, Rename, Readdir, Readdirplus, Fsstat, Fsinfo}
-use Rattle.nfs_model.specs.Types.{Pathconf, Commit, Unsupported, Census, Grow, Stop, Mount, MountBelow, Answer, NullDone, StopDone}
-use Rattle.nfs_model.specs.Types.{Failed, BadHandle, CrossVolume, NoEntry, NotSupported, Reply, Success, SystemError, Asked}
+use Rattle.nfs_model.specs.Types.{Readlink, Read, Write, Create, Mkdir, Symlink, Mknod, Remove, Rmdir, Rename, Link, Readdir}
+use Rattle.nfs_model.specs.Types.{Readdirplus, Fsstat, Fsinfo, Pathconf, Commit, Census, Grow, Stop, Mount, MountBelow, Answer, NullDone}
+use Rattle.nfs_model.specs.Types.{StopDone, Failed, BadHandle, CrossVolume, NoEntry, Reply, Success, SystemError, Asked}
 use Rattle.nfs_model.specs.Types.{Ask, Refused, Undecoded}
 use Rattle.nfs_model.specs.Server.{VolumeState, Server, with_volume}
 use Rattle.nfs_model.specs.Locate.{Effect, Fails, Tells, Changes, Located, locate, on_name}
@@ -15,13 +15,17 @@ use Rattle.nfs_model.specs.Serial.Getattr.{getattr}
 use Rattle.nfs_model.specs.Serial.Setattr.{setattr}
 use Rattle.nfs_model.specs.Serial.Lookup.{lookup}
 use Rattle.nfs_model.specs.Serial.Access.{access}
+use Rattle.nfs_model.specs.Serial.Readlink.{readlink}
 use Rattle.nfs_model.specs.Serial.Read.{read}
 use Rattle.nfs_model.specs.Serial.Write.{write}
 use Rattle.nfs_model.specs.Serial.Create.{create}
 use Rattle.nfs_model.specs.Serial.Mkdir.{mkdir}
+use Rattle.nfs_model.specs.Serial.Symlink.{symlink}
+use Rattle.nfs_model.specs.Serial.Mknod.{mknod}
 use Rattle.nfs_model.specs.Serial.Remove.{remove_name}
 use Rattle.nfs_model.specs.Serial.Rmdir.{rmdir}
 use Rattle.nfs_model.specs.Serial.Rename.{rename}
+use Rattle.nfs_model.specs.Serial.Link.{link}
 use Rattle.nfs_model.specs.Serial.Readdir.{readdir}
 use Rattle.nfs_model.specs.Serial.Readdirplus.{readdirplus}
 use Rattle.nfs_model.specs.Serial.Fsstat.{fsstat}
@@ -73,6 +77,11 @@ abbrev pub changing : Caller → Call → Moment → (VolumeState → ℕ → Ef
 changing caller call moment run volume fileid =
     once caller call moment volume (permitted caller call run volume fileid)
 
+-- and RENAME and LINK, which are on two
+abbrev pub changing_two : Caller → Call → Moment → (VolumeState → ℕ → ℕ → Effect) → VolumeState → ℕ → ℕ → Effect
+changing_two caller call moment run volume fileid other =
+    once caller call moment volume (permitted_two caller call run volume fileid other)
+
 -- a call that was decoded, by its procedure (RFC 1813 section 3.3); a failure has this many absent
 -- parts
 abbrev pub serve_by : Server → ℕ → Call → Caller → Moment → Step
@@ -84,6 +93,7 @@ serve_by server absent (Lookup directory name) caller moment =
     on server absent (locate server directory) (permitted caller (Lookup directory name) (on_name name moment lookup))
 serve_by server absent (CheckAccess handle asked) caller moment =
     on server absent (locate server handle) (access asked caller)
+serve_by server absent (Readlink handle) caller moment = on server absent (locate server handle) readlink
 serve_by server absent (Read handle offset count) caller moment =
     on server absent (locate server handle) (permitted caller (Read handle offset count) (read offset count))
 serve_by server absent (Write handle offset count written) caller moment =
@@ -95,14 +105,22 @@ serve_by server absent (Create directory name mode) caller moment =
 serve_by server absent (Mkdir directory name set) caller moment =
     on server absent (locate server directory)
     (changing caller (Mkdir directory name set) moment (on_name name moment (mkdir set caller)))
+serve_by server absent (Symlink directory name set text) caller moment =
+    on server absent (locate server directory)
+    (changing caller (Symlink directory name set text) moment (on_name name moment (symlink set text caller)))
+serve_by server absent (Mknod directory name kind set) caller moment =
+    on server absent (locate server directory)
+    (changing caller (Mknod directory name kind set) moment (on_name name moment (mknod kind set caller)))
 serve_by server absent (Remove directory name) caller moment =
     on server absent (locate server directory) (changing caller (Remove directory name) moment (on_name name moment remove_name))
 serve_by server absent (Rmdir directory name) caller moment =
     on server absent (locate server directory) (changing caller (Rmdir directory name) moment (on_name name moment rmdir))
 serve_by server absent (Rename from from_name to to_name) caller moment =
-    on_two server absent (locate server from) (locate server to) (λ volume fileid other.
-    once caller (Rename from from_name to to_name) moment volume
-    (permitted_two caller (Rename from from_name to to_name) (rename from_name to_name moment) volume fileid other))
+    on_two server absent (locate server from) (locate server to)
+    (changing_two caller (Rename from from_name to to_name) moment (rename from_name to_name moment))
+serve_by server absent (Link handle directory name) caller moment =
+    on_two server absent (locate server handle) (locate server directory)
+    (changing_two caller (Link handle directory name) moment (link name moment))
 serve_by server absent (Readdir directory cookie verifier count) caller moment =
     on server absent (locate server directory)
     (permitted caller (Readdir directory cookie verifier count) (readdir cookie verifier count))
@@ -114,7 +132,6 @@ serve_by server absent (Fsinfo handle) caller moment = on server absent (locate 
 serve_by server absent (Pathconf handle) caller moment = on server absent (locate server handle) (pathconf caller)
 serve_by server absent (Commit handle) caller moment =
     on server absent (locate server handle) (permitted caller (Commit handle) commit)
-serve_by server absent (Unsupported which) caller moment = stay server (Failed NotSupported absent)
 serve_by server absent Census caller moment = stay server (census server)
 serve_by server absent (Grow volume ranges) caller moment =
     record {

@@ -86,7 +86,7 @@ write_some volume fileid f w =
     (Changes (WriteDone (length (bytes_kept w)) volume.verifier)
     (with_node volume fileid (File (written_file (file_taken w.caller f) w.offset (bytes_kept w) w.moment)))))
 
--- STALE, INVAL for a directory, INVAL for a count that isn't the data's length; a count of 0
+-- STALE, INVAL for all but a regular file, INVAL for a count that isn't the data's length; a count of 0
 -- changes nothing; then the rest
 abbrev pub write : Writing → VolumeState → ℕ → Effect
 write w volume fileid = on_file (get volume.nodes fileid) (λ f.

@@ -1,5 +1,5 @@
 -- Codes of the records, which the value of a Model needs.
-use Rattle.std.specs.Prelude.{◌≡◌, refl, ℕ, List, Option, Some, None, ◌⊎◌}
+use Rattle.std.specs.Prelude.{◌≡◌, refl, ℕ, zero, suc, List, Option, Some, None, ◌⊎◌}
 use Rattle.std.proofs.Common.{inl, inr}
 use Rattle.std.specs.Coded.{Coded, code_by, coded×, coded⊎, coded_ℕ, coded_bool, coded_list, coded_option}
 use Rattle.std.specs.FinMap as maps
@@ -10,12 +10,13 @@ use Rattle.std.specs.Ordering.{nat_cmp}
 use Rattle.std.specs.Prelude.{Bool, true, false}
 use Rattle.nfs_model.specs.Types as types
 use Rattle.nfs_model.specs.Types.{Moment, Ownership, Listed, Caller, SetTime, Keep, ServerTime, ClientTime, SetAttributes, CreateMode, Unchecked, Guarded}
-use Rattle.nfs_model.specs.Types.{Exclusive, Kind, Regular, Shown, Wcc}
-use Rattle.nfs_model.specs.Memo.{Change, Sets, Creates, MakesDirectory, Removes, RemovesDirectory, Renames, Told, ToldSet, ToldMade, ToldGone}
-use Rattle.nfs_model.specs.Memo.{ToldRenamed, Memo}
+use Rattle.nfs_model.specs.Types.{Exclusive, Device, SpecialType, SymbolicLink, Fifo, Socket, BlockDevice, CharacterDevice}
+use Rattle.nfs_model.specs.Types.{Kind, Regular, SpecialKind, Shown, Wcc}
+use Rattle.nfs_model.specs.Memo.{Change, Sets, Creates, MakesDirectory, MakesSymbolicLink, MakesNode, Removes, RemovesDirectory, Renames, Links}
+use Rattle.nfs_model.specs.Memo.{Told, ToldSet, ToldMade, ToldGone, ToldRenamed, ToldLinked, Memo}
 use Rattle.nfs_model.specs.Server.{Attributes}
 use Rattle.nfs_model.specs.volume.Directories.{DirectoryValue}
-use Rattle.nfs_model.specs.volume.Inodes.{InodeKind, RegularFile, DirectoryKind, Inode, InodesValue}
+use Rattle.nfs_model.specs.volume.Inodes.{InodeKind, RegularFile, DirectoryKind, SpecialFile, Inode, InodesValue}
 use Rattle.nfs_model.specs.volume.Stripes.{Card, OfFile, OfDirectory, Block, file_block_cmp, StripeValue}
 use Rattle.nfs_model.specs.volume.Ranges.{RangeValue, DeadValue}
 use Rattle.nfs_model.specs.volume.Logical.{LogicalValue}
@@ -34,6 +35,39 @@ abbrev pub coded_directory : Coded DirectoryValue
 coded_directory = code_by (ℕ × List Listed) (coded× coded_ℕ (coded_list coded_listed)) (λ d. (d.next, d.list))
     (λ p. record { next = p.0; list = p.1 }) (λ _. refl)
 
+-- ---- kinds of objects
+
+abbrev pub coded_device : Coded Device
+coded_device = code_by (ℕ × ℕ) (coded× coded_ℕ coded_ℕ) (λ d. (d.major, d.minor)) (λ p. record { major = p.0; minor = p.1 }) (λ _. refl)
+
+-- which of three has no device, or a device of one of two kinds
+abbrev pub Specials : Type 0
+Specials = ℕ ⊎ (Device ⊎ Device)
+
+abbrev pub special_out : SpecialType → Specials
+special_out SymbolicLink = inl 0
+special_out Fifo = inl 1
+special_out Socket = inl 2
+special_out (BlockDevice device) = inr (inl device)
+special_out (CharacterDevice device) = inr (inr device)
+
+abbrev pub special_back : Specials → SpecialType
+special_back (inl zero) = SymbolicLink
+special_back (inl (suc zero)) = Fifo
+special_back (inl (suc (suc n))) = Socket
+special_back (inr (inl device)) = BlockDevice device
+special_back (inr (inr device)) = CharacterDevice device
+
+pub special_again : (s : SpecialType) → special_back (special_out s) ≡ s
+special_again SymbolicLink = refl
+special_again Fifo = refl
+special_again Socket = refl
+special_again (BlockDevice device) = refl
+special_again (CharacterDevice device) = refl
+
+abbrev pub coded_special : Coded SpecialType
+coded_special = code_by Specials (coded⊎ coded_ℕ (coded⊎ coded_device coded_device)) special_out special_back special_again
+
 -- ---- inodes
 
 abbrev pub coded_attributes : Coded Attributes
@@ -43,28 +77,32 @@ coded_attributes =
     (λ a. ((a.mode, (a.uid, a.gid)), (a.atime, (a.mtime, a.ctime))))
     (λ p. record { mode = p.0.0; uid = p.0.1.0; gid = p.0.1.1; atime = p.1.0; mtime = p.1.1.0; ctime = p.1.1.1 }) (λ _. refl)
 
-abbrev pub FileOrDirectory : Type 0
-FileOrDirectory = (ℕ × (ℕ × Option (List ℕ))) ⊎ (ℕ × ℕ)
+abbrev pub InodeKinds : Type 0
+InodeKinds = (ℕ × (ℕ × Option (List ℕ))) ⊎ ((ℕ × ℕ) ⊎ (SpecialType × ℕ))
 
-abbrev pub kind_out : InodeKind → FileOrDirectory
+abbrev pub kind_out : InodeKind → InodeKinds
 kind_out (RegularFile size filled verifier) = inl (size, (filled, verifier))
-kind_out (DirectoryKind parent subdirectories) = inr (parent, subdirectories)
+kind_out (DirectoryKind parent subdirectories) = inr (inl (parent, subdirectories))
+kind_out (SpecialFile special size) = inr (inr (special, size))
 
-abbrev pub kind_back : FileOrDirectory → InodeKind
+abbrev pub kind_back : InodeKinds → InodeKind
 kind_back (inl p) = RegularFile p.0 p.1.0 p.1.1
-kind_back (inr p) = DirectoryKind p.0 p.1
+kind_back (inr (inl p)) = DirectoryKind p.0 p.1
+kind_back (inr (inr p)) = SpecialFile p.0 p.1
 
 pub kind_again : (k : InodeKind) → kind_back (kind_out k) ≡ k
 kind_again (RegularFile size filled verifier) = refl
 kind_again (DirectoryKind parent subdirectories) = refl
+kind_again (SpecialFile special size) = refl
 
 abbrev pub coded_kind : Coded InodeKind
-coded_kind = code_by FileOrDirectory (coded⊎ (coded× coded_ℕ (coded× coded_ℕ (coded_option (coded_list coded_ℕ))))
-    (coded× coded_ℕ coded_ℕ)) kind_out kind_back kind_again
+coded_kind = code_by InodeKinds (coded⊎ (coded× coded_ℕ (coded× coded_ℕ (coded_option (coded_list coded_ℕ))))
+    (coded⊎ (coded× coded_ℕ coded_ℕ) (coded× coded_special coded_ℕ))) kind_out kind_back kind_again
 
 abbrev pub coded_inode : Coded Inode
-coded_inode = code_by (Attributes × InodeKind) (coded× coded_attributes coded_kind) (λ i. (i.attributes, i.kind))
-    (λ p. record { attributes = p.0; kind = p.1 }) (λ _. refl)
+coded_inode =
+    code_by (Attributes × (ℕ × InodeKind)) (coded× coded_attributes (coded× coded_ℕ coded_kind))
+    (λ i. (i.attributes, (i.names, i.kind))) (λ p. record { attributes = p.0; names = p.1.0; kind = p.1.1 }) (λ _. refl)
 
 abbrev pub coded_inodes : Coded InodesValue
 coded_inodes =
@@ -190,23 +228,30 @@ coded_entry = coded× (coded_list coded_ℕ) (coded_list coded_ℕ)
 
 abbrev pub Changed : Type 0
 Changed =
-    ((List ℕ × (SetAttributes × Option Moment)) ⊎ (Entry × CreateMode)) ⊎ (((Entry × SetAttributes) ⊎ Entry) ⊎ (Entry ⊎ (Entry × Entry)))
+    (((List ℕ × (SetAttributes × Option Moment)) ⊎ (Entry × CreateMode)) ⊎ (((Entry × SetAttributes) ⊎ Entry) ⊎ (Entry ⊎ (Entry × Entry))))
+    ⊎ ((Entry × (SetAttributes × List ℕ)) ⊎ ((Entry × (Kind × SetAttributes)) ⊎ (List ℕ × Entry)))
 
 abbrev pub change_out : Change → Changed
-change_out (Sets handle set guard) = inl (inl (handle, (set, guard)))
-change_out (Creates directory name mode) = inl (inr ((directory, name), mode))
-change_out (MakesDirectory directory name set) = inr (inl (inl ((directory, name), set)))
-change_out (Removes directory name) = inr (inl (inr (directory, name)))
-change_out (RemovesDirectory directory name) = inr (inr (inl (directory, name)))
-change_out (Renames from from_name to to_name) = inr (inr (inr ((from, from_name), (to, to_name))))
+change_out (Sets handle set guard) = inl (inl (inl (handle, (set, guard))))
+change_out (Creates directory name mode) = inl (inl (inr ((directory, name), mode)))
+change_out (MakesDirectory directory name set) = inl (inr (inl (inl ((directory, name), set))))
+change_out (Removes directory name) = inl (inr (inl (inr (directory, name))))
+change_out (RemovesDirectory directory name) = inl (inr (inr (inl (directory, name))))
+change_out (Renames from from_name to to_name) = inl (inr (inr (inr ((from, from_name), (to, to_name)))))
+change_out (MakesSymbolicLink directory name set text) = inr (inl ((directory, name), (set, text)))
+change_out (MakesNode directory name kind set) = inr (inr (inl ((directory, name), (kind, set))))
+change_out (Links handle directory name) = inr (inr (inr (handle, (directory, name))))
 
 abbrev pub change_back : Changed → Change
-change_back (inl (inl p)) = Sets p.0 p.1.0 p.1.1
-change_back (inl (inr p)) = Creates p.0.0 p.0.1 p.1
-change_back (inr (inl (inl p))) = MakesDirectory p.0.0 p.0.1 p.1
-change_back (inr (inl (inr p))) = Removes p.0 p.1
-change_back (inr (inr (inl p))) = RemovesDirectory p.0 p.1
-change_back (inr (inr (inr p))) = Renames p.0.0 p.0.1 p.1.0 p.1.1
+change_back (inl (inl (inl p))) = Sets p.0 p.1.0 p.1.1
+change_back (inl (inl (inr p))) = Creates p.0.0 p.0.1 p.1
+change_back (inl (inr (inl (inl p)))) = MakesDirectory p.0.0 p.0.1 p.1
+change_back (inl (inr (inl (inr p)))) = Removes p.0 p.1
+change_back (inl (inr (inr (inl p)))) = RemovesDirectory p.0 p.1
+change_back (inl (inr (inr (inr p)))) = Renames p.0.0 p.0.1 p.1.0 p.1.1
+change_back (inr (inl p)) = MakesSymbolicLink p.0.0 p.0.1 p.1.0 p.1.1
+change_back (inr (inr (inl p))) = MakesNode p.0.0 p.0.1 p.1.0 p.1.1
+change_back (inr (inr (inr p))) = Links p.0 p.1.0 p.1.1
 
 pub change_again : (c : Change) → change_back (change_out c) ≡ c
 change_again (Sets handle set guard) = refl
@@ -215,30 +260,41 @@ change_again (MakesDirectory directory name set) = refl
 change_again (Removes directory name) = refl
 change_again (RemovesDirectory directory name) = refl
 change_again (Renames from from_name to to_name) = refl
+change_again (MakesSymbolicLink directory name set text) = refl
+change_again (MakesNode directory name kind set) = refl
+change_again (Links handle directory name) = refl
 
-abbrev pub coded_change : Coded Change
-coded_change =
-    code_by Changed
-    (coded⊎ (coded⊎ (coded× (coded_list coded_ℕ) (coded× coded_set (coded_option coded_moment))) (coded× coded_entry coded_mode))
-    (coded⊎ (coded⊎ (coded× coded_entry coded_set) coded_entry) (coded⊎ coded_entry (coded× coded_entry coded_entry))))
-    change_out change_back change_again
+abbrev pub kind_shown : Kind → Bool ⊎ SpecialType
+kind_shown Regular = inl false
+kind_shown types.DirectoryKind = inl true
+kind_shown (SpecialKind special) = inr special
 
-abbrev pub kind_shown : Kind → Bool
-kind_shown Regular = false
-kind_shown types.DirectoryKind = true
-
-abbrev pub shown_kind : Bool → Kind
-shown_kind false = Regular
-shown_kind true = types.DirectoryKind
+abbrev pub shown_kind : Bool ⊎ SpecialType → Kind
+shown_kind (inl false) = Regular
+shown_kind (inl true) = types.DirectoryKind
+shown_kind (inr special) = SpecialKind special
 
 pub kind_shown_again : (k : Kind) → shown_kind (kind_shown k) ≡ k
 kind_shown_again Regular = refl
 kind_shown_again types.DirectoryKind = refl
+kind_shown_again (SpecialKind special) = refl
+
+abbrev pub coded_kind_shown : Coded Kind
+coded_kind_shown = code_by (Bool ⊎ SpecialType) (coded⊎ coded_bool coded_special) kind_shown shown_kind kind_shown_again
+
+abbrev pub coded_change : Coded Change
+coded_change =
+    code_by Changed
+    (coded⊎ (coded⊎ (coded⊎ (coded× (coded_list coded_ℕ) (coded× coded_set (coded_option coded_moment))) (coded× coded_entry coded_mode))
+    (coded⊎ (coded⊎ (coded× coded_entry coded_set) coded_entry) (coded⊎ coded_entry (coded× coded_entry coded_entry))))
+    (coded⊎ (coded× coded_entry (coded× coded_set (coded_list coded_ℕ)))
+    (coded⊎ (coded× coded_entry (coded× coded_kind_shown coded_set)) (coded× (coded_list coded_ℕ) coded_entry))))
+    change_out change_back change_again
 
 abbrev pub coded_shown : Coded Shown
 coded_shown =
     code_by ((Kind × ((ℕ × ℕ) × (ℕ × ℕ))) × (((ℕ × ℕ) × (ℕ × ℕ)) × (Moment × (Moment × Moment))))
-    (coded× (coded× (code_by Bool coded_bool kind_shown shown_kind kind_shown_again) (coded× (coded× coded_ℕ coded_ℕ) (coded× coded_ℕ coded_ℕ)))
+    (coded× (coded× coded_kind_shown (coded× (coded× coded_ℕ coded_ℕ) (coded× coded_ℕ coded_ℕ)))
     (coded× (coded× (coded× coded_ℕ coded_ℕ) (coded× coded_ℕ coded_ℕ)) (coded× coded_moment (coded× coded_moment coded_moment))))
     (λ s. ((s.kind, ((s.mode, s.links), (s.uid, s.gid))), (((s.size, s.used), (s.fsid, s.fileid)), (s.atime, (s.mtime, s.ctime)))))
     (λ p. record {
@@ -262,28 +318,34 @@ coded_wcc = code_by ((ℕ × (Moment × Moment)) × Shown) (coded× (coded× cod
     (λ p. record { before = record { size = p.0.0; mtime = p.0.1.0; ctime = p.0.1.1 }; after = p.1 }) (λ _. refl)
 
 abbrev pub Results : Type 0
-Results = (Wcc ⊎ (Shown × Wcc)) ⊎ (Wcc ⊎ (Wcc × Wcc))
+Results = (Wcc ⊎ (Shown × Wcc)) ⊎ (Wcc ⊎ ((Wcc × Wcc) ⊎ (Shown × Wcc)))
 
 abbrev pub told_out : Told → Results
 told_out (ToldSet change) = inl (inl change)
 told_out (ToldMade object directory) = inl (inr (object, directory))
 told_out (ToldGone directory) = inr (inl directory)
-told_out (ToldRenamed from to) = inr (inr (from, to))
+told_out (ToldRenamed from to) = inr (inr (inl (from, to)))
+told_out (ToldLinked object directory) = inr (inr (inr (object, directory)))
 
 abbrev pub told_back : Results → Told
 told_back (inl (inl change)) = ToldSet change
 told_back (inl (inr p)) = ToldMade p.0 p.1
 told_back (inr (inl directory)) = ToldGone directory
-told_back (inr (inr p)) = ToldRenamed p.0 p.1
+told_back (inr (inr (inl p))) = ToldRenamed p.0 p.1
+told_back (inr (inr (inr p))) = ToldLinked p.0 p.1
 
 pub told_again : (t : Told) → told_back (told_out t) ≡ t
 told_again (ToldSet change) = refl
 told_again (ToldMade object directory) = refl
 told_again (ToldGone directory) = refl
 told_again (ToldRenamed from to) = refl
+told_again (ToldLinked object directory) = refl
 
 abbrev pub coded_told : Coded Told
-coded_told = code_by Results (coded⊎ (coded⊎ coded_wcc (coded× coded_shown coded_wcc)) (coded⊎ coded_wcc (coded× coded_wcc coded_wcc)))
+coded_told =
+    code_by Results
+    (coded⊎ (coded⊎ coded_wcc (coded× coded_shown coded_wcc))
+    (coded⊎ coded_wcc (coded⊎ (coded× coded_wcc coded_wcc) (coded× coded_shown coded_wcc))))
     told_out told_back told_again
 
 abbrev pub coded_memo : Coded Memo
@@ -295,13 +357,13 @@ coded_memo = code_by ((Caller × Change) × (Moment × Told)) (coded× (coded× 
 abbrev pub coded_logical : Coded LogicalValue
 coded_logical =
     code_by (((List ℕ × ℕ) × (ℕ × (ℕ × ℕ)))
-    × (InodesValue × (FinMap nat_cmp DirectoryValue × (FinSet nat_cmp × (DeadValue × List (Option Memo))))))
+    × (InodesValue × ((FinMap nat_cmp DirectoryValue × FinMap nat_cmp (List ℕ)) × (FinSet nat_cmp × (DeadValue × List (Option Memo))))))
     (coded× (coded× (coded× (coded_list coded_ℕ) coded_ℕ) (coded× coded_ℕ (coded× coded_ℕ coded_ℕ)))
-    (coded× coded_inodes (coded× (maps.code coded_ℕ coded_directory)
+    (coded× coded_inodes (coded× (coded× (maps.code coded_ℕ coded_directory) (maps.code coded_ℕ (coded_list coded_ℕ)))
     (coded× (sets.code coded_ℕ) (coded× coded_dead (coded_list (coded_option coded_memo)))))))
     (λ l. (
       ((l.verifier, l.stripes), (l.largest, (l.most_inodes, l.most_steps))),
-      (l.inodes, (l.directories, (l.stock, (l.dead, l.memos)))),
+      (l.inodes, ((l.directories, l.texts), (l.stock, (l.dead, l.memos)))),
     ))
     (λ p. record {
       verifier = p.0.0.0;
@@ -310,7 +372,8 @@ coded_logical =
       most_inodes = p.0.1.1.0;
       most_steps = p.0.1.1.1;
       inodes = p.1.0;
-      directories = p.1.1.0;
+      directories = p.1.1.0.0;
+      texts = p.1.1.0.1;
       stock = p.1.1.1.0;
       dead = p.1.1.1.1.0;
       memos = p.1.1.1.1.1;

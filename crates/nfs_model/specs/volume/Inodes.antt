@@ -2,7 +2,7 @@
 use Rattle.std.specs.Prelude.{◌≡◌, ℕ, ◌+◌, ◌-◌, ◌<◌, List, [], ◌∷◌, Option, Some, None}
 use Rattle.std.specs.Ordering.{nat_cmp}
 use Rattle.std.specs.FinMap.{FinMap, get, insert, remove, entries, from_sorted}
-use Rattle.nfs_model.specs.Types.{Moment, Ownership}
+use Rattle.nfs_model.specs.Types.{Moment, Ownership, SpecialType}
 use Rattle.nfs_model.specs.Server.{Attributes, root_node}
 use Rattle.nfs_model.specs.Shown.{effective_attributes, times}
 use Rattle.nfs_model.specs.volume.Maps.{changed_at}
@@ -13,9 +13,12 @@ pub data InodeKind : Type 0 where
   RegularFile : (size filled : ℕ) (verifier : Option (List ℕ)) → InodeKind
   -- a directory: its parent's fileid, and how many of its entries are directories
   DirectoryKind : (parent subdirectories : ℕ) → InodeKind
+  -- a symbolic link, with the length of its text in bytes, a FIFO, a socket or a device, of size 0
+  SpecialFile : (special : SpecialType) (size : ℕ) → InodeKind
 
 pub record Inode : Type 0 where
   pub attributes : Attributes
+  pub names : ℕ  -- how many entries of directories name it; the root has none
   pub kind : InodeKind
 
 pub record InodesValue : Type 0 where
@@ -31,7 +34,7 @@ inodes_of_a_volume = 67108864
 
 -- the root of a volume that begins at a moment, its own parent, with the attributes that it begins with
 abbrev pub root_inode : Ownership → Moment → Inode
-root_inode owner moment = record { attributes = times (root_node owner moment); kind = DirectoryKind 1 0 }
+root_inode owner moment = record { attributes = times (root_node owner moment); names = 0; kind = DirectoryKind 1 0 }
 
 -- a volume's inodes as it begins at a moment: its root alone
 abbrev pub opening_inodes : Ownership → Moment → InodesValue
@@ -42,10 +45,11 @@ opening_inodes owner moment = record { next = 2; used = 0; inodes = from_sorted 
 abbrev pub inode_of : InodesValue → ℕ → Option Inode
 inode_of v fileid = get v.inodes fileid
 
--- the filled blocks of an inode; a directory has none
+-- the filled blocks of an inode; only files have some
 abbrev pub filled_blocks : InodeKind → ℕ
 filled_blocks (RegularFile size filled verifier) = filled
 filled_blocks (DirectoryKind parent subdirectories) = 0
+filled_blocks (SpecialFile special size) = 0
 
 -- the attributes as they hold, where a file was touched at a moment since its times were last set
 abbrev pub attributes_held : Option Moment → Inode → Attributes

@@ -17,6 +17,7 @@ pub record LogicalValue : Type 0 where
   pub most_steps : ℕ  -- of directories whose parents a RENAME looks at
   pub inodes : InodesValue
   pub directories : FinMap nat_cmp DirectoryValue  -- by fileid
+  pub texts : FinMap nat_cmp (List ℕ)  -- of symbolic links, by fileid
   pub stock : FinSet nat_cmp  -- block numbers for files
   pub dead : DeadValue  -- block numbers left by files, not yet free
   pub memos : List (Option Memo)  -- the places for what is remembered of calls

@@ -4,3 +4,4 @@ pub mod Maps
 pub mod Numbered
 pub mod Inodes
 pub mod Entries
+pub mod Listing

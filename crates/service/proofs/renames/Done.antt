@@ -17,7 +17,7 @@ use Rattle.filer_state.specs.state.Promises.{RightOnVolume}
 use Rattle.filer_state.specs.state.Running.{RunsOn}
 use Rattle.service_names.specs.ChangeLaws.{IsDone, MayStarve}
 use Rattle.service_names.specs.NamedChanges.{HeldNode, node_under, directory_change}
-use Rattle.service_names.specs.RenamingChanges.{HeldRenaming, fails_both, unless_both, is_one_entry, held_above, target_may_go, directory_now, set_renamed}
+use Rattle.service_names.specs.RenamingChanges.{HeldRenaming, fails_both, unless_both, is_held, held_above, target_may_go, directory_now, set_renamed}
 use Rattle.service_names.specs.RenamingChanges.{held_renamed, rename_by, held_rename}
 use Rattle.service.specs.renames.Promises.{renaming_outcome}
 use Rattle.service.specs.renames.Renaming.{first_fault, names_fault, Renamed}
@@ -73,10 +73,10 @@ module _ (r : HeldRenaming) (child : HeldNode) (target : Option HeldNode) where
   when_one b = if b then held_renamed r r.from.set else when_met fault_met
 
   module _ (done : LogicalAnswer) (told : done ≡ rename_by r (Some child) target) where
-    pub one-entry : is_one_entry r ≡ true → done ≡ held_renamed r r.from.set
-    one-entry one = told ∙ ap when_one one
+    pub one-node : is_held child target ≡ true → done ≡ held_renamed r r.from.set
+    one-node one = told ∙ ap when_one one
 
-    module _ (apart : is_one_entry r ≡ false) where
+    module _ (apart : is_held child target ≡ false) where
       pub bad-place : (fault : Status) → Some fault ≡ fault_met → done ≡ fails_both fault r.from.set
       bad-place fault met = told ∙ ap when_one apart ∙ ap when_met (sym met)
 

@@ -1,7 +1,10 @@
 -- What a step leaves after another, and targets that are dropped.
-use Rattle.std.proofs.Common.{◌≡◌, ℕ, List, Option, Some, refl, sym, ap, ◌∙◌}
+use Rattle.std.proofs.Common.{◌≡◌, ℕ, ◌<◌, ◌≤◌, true, false, List, Option, Some, refl, sym, ap, ◌∙◌}
+use Rattle.std.proofs.lemmas.Bool.{le-leb, lt-leb}
+use Rattle.std.specs.Prelude.{nat_le}
 use Rattle.nfs_model.specs.Types.{Moment}
-use Rattle.nfs_model.specs.volume.Inodes.{InodeKind, RegularFile, DirectoryKind, Inode}
+use Rattle.nfs_model.specs.Types.{SpecialType}
+use Rattle.nfs_model.specs.volume.Inodes.{InodeKind, RegularFile, DirectoryKind, SpecialFile, Inode}
 use Rattle.filer_state.specs.state.Lenses.{LogicalSet}
 use Rattle.filer_state.specs.state.Names.{DirectoryMap}
 use Rattle.filer_state.specs.state.Sets.{FilerLogical, logical_set, logical_before, logical_after}
@@ -9,10 +12,9 @@ use Rattle.service_names.specs.NodesDropped.{directories_left, node_dropped}
 use Rattle.service_names.specs.NodesSized.{kind_sized, file_sized}
 use Rattle.service_names.specs.NamedChanges.{HeldNode}
 use Rattle.service_names.specs.DroppingChanges.{dropping_of, emptying_of, child_emptied}
-use Rattle.service_names.specs.RenamingChanges.{target_dropped}
 use Rattle.service_names.specs.Naming.{naming_in}
 use Rattle.service.specs.declared.renames.between.Between.{Between}
-use Rattle.service.specs.renames.Moving.{with_map, to_of, node_gone, emptied_gone, target_out}
+use Rattle.service.specs.renames.Moving.{with_map, to_of, node_gone, emptied_gone, name_out, last_out, out_as, target_out}
 
 -- a step that changes what another left
 pub then-step : {P : Type 0} (old mid new : FilerLogical P) (t : LogicalSet) (f : LogicalSet → LogicalSet) → logical_after old mid ≡ t
@@ -26,6 +28,7 @@ sized-left : (size fewer : ℕ) (kind : InodeKind) (fileid : ℕ) (directories :
     → directories_left (kind_sized size fewer kind) fileid directories ≡ directories_left kind fileid directories
 sized-left size fewer (RegularFile old filled verifier) fileid directories = refl
 sized-left size fewer (DirectoryKind parent subs) fileid directories = refl
+sized-left size fewer (SpecialFile special old) fileid directories = refl
 
 -- a file without bytes is dropped
 pub emptied-then-gone : {P : Type 0} (old mid new : FilerLogical P) (v directory : ℕ)
@@ -46,11 +49,23 @@ emptied-then-gone old mid new v directory as_directory name moment child emptied
     (sized-left 0 _ child.inode.kind child.fileid (logical_before old).own.directories)
 
 module _ (b : Between) (t : HeldNode) (s : LogicalSet) where
-  pub out-file : (size filled : ℕ) (verifier : Option (List ℕ)) → t.inode.kind ≡ RegularFile size filled verifier
-      → emptied_gone (to_of b s) t s ≡ target_out b (Some t) s
-  out-file size filled verifier kind =
-      sym (ap (λ (k : InodeKind). with_map (directories_left t.inode.kind t.fileid s.own.directories) (target_dropped (to_of b s) t k)) kind)
+  -- one that has other names
+  pub out-name : 1 < t.inode.names → name_out (to_of b s) t s ≡ target_out b (Some t) s
+  out-name more = sym (ap (λ c. out_as c (to_of b s) t s) (lt-leb t.inode.names 1 more))
 
-  pub out-directory : (parent subs : ℕ) → t.inode.kind ≡ DirectoryKind parent subs → node_gone (to_of b s) t s ≡ target_out b (Some t) s
-  out-directory parent subs kind =
-      sym (ap (λ (k : InodeKind). with_map (directories_left t.inode.kind t.fileid s.own.directories) (target_dropped (to_of b s) t k)) kind)
+  -- and one that hasn't
+  module _ (last : t.inode.names ≤ 1) where
+    out-last : (kind : InodeKind) → t.inode.kind ≡ kind → last_out (to_of b s) t kind s ≡ target_out b (Some t) s
+    out-last kind is =
+        sym (ap (λ c. out_as c (to_of b s) t s) (le-leb t.inode.names 1 last) ∙ ap (λ (k : InodeKind). last_out (to_of b s) t k s) is)
+
+    pub out-file : (size filled : ℕ) (verifier : Option (List ℕ)) → t.inode.kind ≡ RegularFile size filled verifier
+        → emptied_gone (to_of b s) t s ≡ target_out b (Some t) s
+    out-file size filled verifier is = out-last (RegularFile size filled verifier) is
+
+    pub out-directory : (parent subs : ℕ) → t.inode.kind ≡ DirectoryKind parent subs → node_gone (to_of b s) t s ≡ target_out b (Some t) s
+    out-directory parent subs is = out-last (DirectoryKind parent subs) is
+
+    pub out-special : (special : SpecialType) (size : ℕ) → t.inode.kind ≡ SpecialFile special size
+        → node_gone (to_of b s) t s ≡ target_out b (Some t) s
+    out-special special size is = out-last (SpecialFile special size) is

@@ -2,7 +2,7 @@
 use Rattle.std.proofs.Common.{◌≡◌, ℕ, ◌+◌, ◌≤◌, ◌==◌, Bool, true, false, Option, Some, None, refl, sym, subst, arith}
 use Rattle.std.specs.Prelude.{IfSome, if◌then◌else◌}
 use Rattle.std.specs.FinMap.{get}
-use Rattle.nfs_model.specs.volume.Inodes.{InodeKind, RegularFile, DirectoryKind, Inode, InodesValue, filled_blocks, inode_replaced, inode_set}
+use Rattle.nfs_model.specs.volume.Inodes.{InodeKind, RegularFile, DirectoryKind, SpecialFile, Inode, InodesValue, filled_blocks, inode_replaced, inode_set}
 use Rattle.nfs_model.specs.volume.Inodes.{used_without, inode_dropped}
 use Rattle.nfs_model.specs.volume.lemmas.Numbered.{get-insert_at, get-remove_at}
 use Rattle.service_names.specs.RenamingChanges.{inode_or}
@@ -22,11 +22,13 @@ within-now (Some i) before now was = now
 
 pub within-left : (fewer : ℕ) (kind : InodeKind) → IsWithin kind → IsWithin (without_subdirectories fewer kind)
 within-left fewer (RegularFile size filled verifier) w = w
+within-left fewer (SpecialFile special size) w = w
 within-left fewer (DirectoryKind parent subs) w = let few = w.links in record { links = omega arith; filled = w.filled }
 
 pub within-sized : (size fewer : ℕ) (kind : InodeKind) → IsWithin kind → IsWithin (kind_sized size fewer kind)
 within-sized size fewer (RegularFile old filled verifier) w = let most = w.filled in record { links = w.links; filled = omega arith }
 within-sized size fewer (DirectoryKind parent subs) w = w
+within-sized size fewer (SpecialFile special old) w = w
 
 pub within-set : (k : ℕ) (inode : Inode) (v : InodesValue) → AllWithin v.inodes → IsWithin inode.kind → AllWithin (inode_set k inode v).inodes
 within-set k inode v all w q = by (get v.inodes k)
@@ -50,6 +52,7 @@ within-dropped k v all q = subst WithinIn (sym (get-remove_at v.inodes k q)) (by
 pub blocks-more : (more : ℕ) (kind : InodeKind) → filled_blocks (with_subdirectories more kind) ≡ filled_blocks kind
 blocks-more more (RegularFile size filled verifier) = refl
 blocks-more more (DirectoryKind parent subs) = refl
+blocks-more more (SpecialFile special size) = refl
 
 -- ---- used blocks
 

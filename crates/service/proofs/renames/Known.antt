@@ -2,7 +2,7 @@
 use Rattle.std.proofs.Common.{◌≡◌, ℕ, ◌+◌, ◌<◌, ◌^◌, ◌==◌, ◌&&◌, Bool, true, false, List, [], ◌∷◌, Option, Some, None}
 use Rattle.std.proofs.Common.{refl, sym, ap, ◌∙◌, subst, arith}
 use Rattle.std.proofs.lemmas.Bool.{eqb-true}
-use Rattle.std.specs.Prelude.{IfSome, if◌then◌else◌}
+use Rattle.std.specs.Prelude.{nat_le, IfSome, if◌then◌else◌}
 use Rattle.std.specs.Option.{option_map}
 use Rattle.std.specs.FinMap.{get, remove}
 use Rattle.nfs_model.specs.Names.{same_name}
@@ -11,10 +11,12 @@ use Rattle.nfs_model.specs.Serial.Rename.{is_empty_list}
 use Rattle.nfs_model.specs.Types.{Listed}
 use Rattle.depot_rule.specs.Shares.{too_many}
 use Rattle.nfs_model.specs.volume.Directories.{DirectoryValue, found, fileid_found}
-use Rattle.nfs_model.specs.volume.Inodes.{InodeKind, RegularFile, DirectoryKind, Inode}
+use Rattle.nfs_model.specs.volume.Inodes.{InodeKind, RegularFile, DirectoryKind, SpecialFile, Inode}
 use Rattle.nfs_model.specs.volume.lemmas.Inodes.{filled-within}
-use Rattle.nfs_model.specs.volume.lemmas.Numbered.{get-remove_at}
+use Rattle.nfs_model.specs.volume.lemmas.Directories.{same-is}
+use Rattle.nfs_model.specs.volume.lemmas.Numbered.{itself, get-remove_at}
 use Rattle.inodes.specs.Inode.{inode_value}
+use Rattle.filer_state.specs.permissions.Refusing.{are_one}
 use Rattle.filer_state.specs.state.Calls.{VolumeCall}
 use Rattle.filer_state.specs.state.Changes.{LogicalAnswer}
 use Rattle.filer_state.specs.state.Contents.{VolumeContents}
@@ -24,12 +26,12 @@ use Rattle.filer_state.specs.state.Sound.{IsSound}
 use Rattle.service_names.specs.NameAnswers.{entries_of}
 use Rattle.service_names.specs.ChangeLaws.{IsDone}
 use Rattle.service_names.specs.NamedChanges.{HeldNode, node_there, node_at}
-use Rattle.service_names.specs.RenamingChanges.{may_replace, target_may_go}
+use Rattle.service_names.specs.RenamingChanges.{is_held, may_replace, target_may_go}
 use Rattle.service_names.specs.lemmas.May.{whole-absent}
 use Rattle.service_names.specs.lemmas.Nodes.{used-most, whole-used, whole-may-be-set, whole-entered}
 use Rattle.service_names.specs.lemmas.Whole.{few-links, whole-few}
 use Rattle.service.specs.declared.renames.between.Between.{Between}
-use Rattle.service.specs.renames.Moving.{AreThere, MayMove, target_left}
+use Rattle.service.specs.renames.Moving.{AreThere, MayMove, left_as, target_left}
 use Rattle.service.specs.renames.Renaming.{IsWithin, AllWithin}
 use Rattle.service.proofs.renames.Entered.{removed-absent}
 
@@ -110,21 +112,45 @@ module _ (s : LogicalSet) where
 
   emptied : (moved : InodeKind) (t parent subs : ℕ) → may_replace s moved t (DirectoryKind parent subs) ≡ true → (entries_of s.own t).list ≡ []
   emptied (RegularFile size filled verifier) t parent subs may = absurd cc
+  emptied (SpecialFile special size) t parent subs may = absurd cc
   emptied (DirectoryKind p m) t parent subs may = empty-list (entries_of s.own t).list may
 
-  target-stays : (moved : InodeKind) (t : ℕ) (kind : InodeKind) → may_replace s moved t kind ≡ true
+  kind-stays : (moved : InodeKind) (t : ℕ) (kind : InodeKind) → may_replace s moved t kind ≡ true
       → (d : ℕ) (name : List ℕ) (node : HeldNode) → node_at s (fileid_found (entries_of s.own d) name) ≡ Some node
       → get s.own.directories d ≡ Some (entries_of s.own d)
-      → (a : HeldNode) → a.fileid ≡ t → a.inode.kind ≡ kind → get (target_left (Some a) s.own.directories) d ≡ Some (entries_of s.own d)
-  target-stays moved t (RegularFile size filled verifier) may d name node under entered a at is =
-      ap (λ (k : InodeKind). get (target_left (Some (record { fileid = a.fileid; inode = record { attributes = a.inode.attributes; kind = k } }))
-      s.own.directories) d) is
-      ∙ entered
-  target-stays moved t (DirectoryKind parent subs) may d name node under entered a at is =
-      ap (λ (k : InodeKind). get (target_left (Some (record { fileid = a.fileid; inode = record { attributes = a.inode.attributes; kind = k } }))
-      s.own.directories) d) is
-      ∙ ap (λ (q : ℕ). get (remove s.own.directories q) d) at
-      ∙ stays d t name node under (emptied moved t parent subs may) entered
+      → (c : Bool) → get (left_as c kind t s.own.directories) d ≡ Some (entries_of s.own d)
+  kind-stays moved t kind may d name node under entered false = entered
+  kind-stays moved t (RegularFile size filled verifier) may d name node under entered true = entered
+  kind-stays moved t (SpecialFile special size) may d name node under entered true = entered
+  kind-stays moved t (DirectoryKind parent subs) may d name node under entered true =
+      stays d t name node under (emptied moved t parent subs may) entered
+
+  target-stays : (moved : InodeKind) (a : HeldNode) → may_replace s moved a.fileid a.inode.kind ≡ true
+      → (d : ℕ) (name : List ℕ) (node : HeldNode) → node_at s (fileid_found (entries_of s.own d) name) ≡ Some node
+      → get s.own.directories d ≡ Some (entries_of s.own d) → get (target_left (Some a) s.own.directories) d ≡ Some (entries_of s.own d)
+  target-stays moved a may d name node under entered =
+      kind-stays moved a.fileid a.inode.kind may d name node under entered (nat_le a.inode.names 1)
+
+-- the node itself is the one that moves
+held-itself : (child : HeldNode) → is_held child (Some child) ≡ true
+held-itself child = itself child.fileid
+
+module _ (s : LogicalSet) (child : HeldNode) where
+  one-held : (target : Option HeldNode) → target ≡ Some child → is_held child target ≡ false → ⊥
+  one-held target is two =
+      let no : true ≡ false = sym (held-itself child) ∙ ap (is_held child) (sym is) ∙ two in absurd cc
+
+  -- where the nodes of two entries are two, the entries are of two fileids
+  not-one : (target : Option HeldNode) (from to : Option ℕ) → Some child ≡ node_at s from → target ≡ node_at s to → is_held child target ≡ false
+      → are_one from to ≡ false
+  not-one target None to under upon two = refl
+  not-one target (Some from) None under upon two = refl
+  not-one target (Some from) (Some to) under upon two = by (to == from) refl
+    where
+      by : (b : Bool) → (to == from) ≡ b → b ≡ false
+      by false is = refl
+      by true is =
+          absurd (one-held target (upon ∙ ap (λ (q : ℕ). node_at s (Some q)) (eqb-true to from is) ∙ sym under) two)
 
 not-found : (o : Option Listed) → option_map (λ (e : Listed). e.fileid) o ≡ None → o ≡ None
 not-found None e = refl
@@ -149,10 +175,28 @@ module _ (b : Between) (from_name to_name : List ℕ) (s : LogicalSet) (whole : 
   to-entered : get s.own.directories t ≡ Some (entries_of s.own t)
   to-entered = whole-entered v s whole t (inode_value b.to.inode) there.to there.to_is_directory
 
+  -- the names are of two nodes, so that they aren't of one entry
+  pub two-nodes : (target : Option HeldNode) → target ≡ node_at s (fileid_found (entries_of s.own t) to_name) → is_held child target ≡ false
+      → are_one (fileid_found (entries_of s.own f) from_name) (fileid_found (entries_of s.own t) to_name) ≡ false
+  two-nodes target upon two =
+      not-one s child target (fileid_found (entries_of s.own f) from_name) (fileid_found (entries_of s.own t) to_name) under upon two
+
+  apart : (target : Option HeldNode) → target ≡ node_at s (fileid_found (entries_of s.own t) to_name) → is_held child target ≡ false
+      → ((f == t) && same_name from_name to_name) ≡ false
+  apart target upon two = by (f == t) refl (same_name from_name to_name) refl
+    where
+      by : (x : Bool) → (f == t) ≡ x → (y : Bool) → same_name from_name to_name ≡ y → (x && y) ≡ false
+      by false is y names = refl
+      by true is false names = refl
+      by true is true names =
+          let same : fileid_found (entries_of s.own f) from_name ≡ fileid_found (entries_of s.own t) to_name =
+          λ j. fileid_found (entries_of s.own (eqb-true f t is j)) (same-is from_name to_name names j) in
+          absurd (one-held s child target (upon ∙ ap (node_at s) (sym same) ∙ sym under) two)
+
   pub may-move : (target : Option HeldNode) → target ≡ node_at s (fileid_found (entries_of s.own t) to_name)
-      → target_may_go s child target ≡ true → ((f == t) && same_name from_name to_name) ≡ false
+      → target_may_go s child target ≡ true → is_held child target ≡ false
       → MayMove b from_name to_name target s
-  may-move None none goes apart = record {
+  may-move None none goes two = record {
     few = whole-few v s whole;
     used = whole-used v s whole;
     sized = tt;
@@ -168,9 +212,9 @@ module _ (b : Between) (from_name to_name : List ℕ) (s : LogicalSet) (whole : 
     absent = λ e.
         removed-absent (entries_of s.own t) to_name (not-found (found (entries_of s.own t) to_name)
         (whole-absent v s whole t (inode_value b.to.inode) to_name there.to there.to_is_directory (sym none)));
-    apart = apart;
+    apart = apart None none two;
   }
-  may-move (Some a) at goes apart = record {
+  may-move (Some a) at goes two = record {
     few = whole-few v s whole;
     used = whole-used v s whole;
     sized = whole-may-be-set v s whole a.fileid a.inode (node-there s (fileid_found (entries_of s.own t) to_name) a (sym at));
@@ -181,8 +225,8 @@ module _ (b : Between) (from_name to_name : List ℕ) (s : LogicalSet) (whole : 
     target_within = within-at v s whole a.fileid a.inode (node-there s (fileid_found (entries_of s.own t) to_name) a (sym at));
     from_entered = from-entered;
     to_entered = to-entered;
-    from_stays = target-stays s child.inode.kind a.fileid a.inode.kind goes f from_name child (sym under) from-entered a refl refl;
-    to_stays = target-stays s child.inode.kind a.fileid a.inode.kind goes t to_name a (sym at) to-entered a refl refl;
+    from_stays = target-stays s child.inode.kind a goes f from_name child (sym under) from-entered;
+    to_stays = target-stays s child.inode.kind a goes t to_name a (sym at) to-entered;
     absent = λ e. absurd cc;
-    apart = apart;
+    apart = apart (Some a) at two;
   }

@@ -12,6 +12,7 @@ use Rattle.nfs_model.specs.Route.{Route, OfBytesWritten, route}
 use Rattle.nfs_model.specs.Home.{bytes_home, home_of_route, rename_home, named_by, span_bytes, stripe_of_span}
 use Rattle.nfs_model.specs.Locate.{located_in, located_by, locate}
 use Rattle.nfs_model.specs.Serial.Absent.{absent_parts}
+use Rattle.nfs_model.specs.Serial.Link.{link}
 use Rattle.nfs_model.specs.Serial.Mount.{parts_below}
 use Rattle.nfs_model.specs.Serial.MountBelow.{mount_below}
 use Rattle.nfs_model.specs.Serial.Once.{once}
@@ -156,12 +157,41 @@ on-both layout a from from_name to to_name caller moment is tried =
           (eq-eqb v v refl);
     }
 
+-- LINK, on two handles of one volume
+on-object : (layout : Layout) (a : Affinity) (handle directory name : List ℕ) (caller : Caller) (moment : Moment)
+    → rename_home (named_by layout handle) (named_by layout directory) ≡ Some a
+    → IsHomeOrAbove layout (Ask (types.Link handle directory name) caller) a
+    → IsCallOn layout (volume_around a) (call_on layout a caller moment (types.Link handle directory name)) caller moment
+on-object layout a handle directory name caller moment is tried =
+    let both = both-there (named_by layout handle) (named_by layout directory) a is in
+    let v : ℕ = volume_around a in
+    let object_id : ℕ = fileid_in (named_by layout handle) in
+    let directory_id : ℕ = fileid_in (named_by layout directory) in
+    let object_home = at-logical (named_by layout handle) a both.0 in
+    let directory_home = at-logical (named_by layout directory) a both.1 in
+    let call : types.Call = types.Link handle directory name in
+    let run = λ (volume : VolumeState) (fileid other : ℕ).
+    once caller call moment volume (permitted_two caller call (link name moment) volume fileid other) in record {
+      called = refl;
+      good = object_home.names;
+      under = object_home.above;
+      tried = tried;
+      served = λ server volume count there.
+          ap (λ o. on_two server 3 o (locate server directory) run)
+          (located-there layout server volume v object_id handle count there object_home.names)
+          ∙ ap (λ o. on_two server 3 (Some (record { named = record { volume = v; fileid = object_id }; volume = volume })) o run)
+          (located-there layout server volume v directory_id directory count there directory_home.names)
+          ∙ ap (λ (b : Bool). if b then placed server 3 v (run volume object_id directory_id) else stay server (types.Failed types.CrossVolume 3))
+          (eq-eqb v v refl);
+    }
+
 run-is-call : (layout : Layout) (call : Call) (caller : Caller) (moment : Moment) (a : Affinity) → IsRunIn layout call a
     → IsCallOn layout (volume_around a) (call_on layout a caller moment (call_of call)) caller moment
 run-is-call layout (calls.Rename from to) caller moment a at =
     on-both layout a from.directory from.name to.directory to.name caller moment at.1 (run-tried layout (calls.Rename from to) caller a at)
+run-is-call layout (calls.MakeLink handle target) caller moment a at =
+    on-object layout a handle target.directory target.name caller moment at.1 (run-tried layout (calls.MakeLink handle target) caller a at)
 run-is-call layout calls.Null caller moment a at = absurd at.0
-run-is-call layout (calls.Unsupported which) caller moment a at = absurd at.0
 run-is-call layout calls.Census caller moment a at = absurd at.0
 run-is-call layout (calls.Grow volume more) caller moment a at = absurd at.0
 run-is-call layout calls.Stop caller moment a at = absurd at.0

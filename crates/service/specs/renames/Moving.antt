@@ -1,6 +1,6 @@
 -- The steps of a RENAME in the order in which they are done: the entry of the new name comes first, which alone takes memory. Each is
 -- the step of its definition but for the directories, which it changes in its own way; all together change them as the definition does.
-use Rattle.std.specs.Prelude.{◌≡◌, ℕ, ◌*◌, ◌<◌, ◌≤◌, ◌^◌, ◌&&◌, ◌==◌, false, true, List, [], Option, Some, None, IfSome}
+use Rattle.std.specs.Prelude.{◌≡◌, ℕ, ◌*◌, ◌<◌, ◌≤◌, ◌^◌, ◌&&◌, ◌==◌, nat_le, Bool, false, true, List, [], Option, Some, None, IfSome}
 use Rattle.std.specs.FinMap.{get}
 use Rattle.nfs_model.specs.Names.{same_name}
 use Rattle.nfs_model.specs.Parts.{most_ranges}
@@ -8,15 +8,18 @@ use Rattle.nfs_model.specs.volume.Ranges.{most_range_blocks}
 use Rattle.nfs_values.specs.Moment.{moment_of}
 use Rattle.nfs_model.specs.volume.Directories.{DirectoryValue, added, removed}
 use Rattle.nfs_model.specs.volume.Maps.{changed_at}
+use Rattle.nfs_model.specs.volume.Inodes.{InodeKind, RegularFile}
 use Rattle.inodes.specs.Inode.{kind_value, inode_value}
 use Rattle.filer_state.specs.state.Lenses.{LogicalSet}
 use Rattle.filer_state.specs.state.Names.{DirectoryMap, is_directory}
+use Rattle.filer_state.specs.state.Tree.{file_touch}
 use Rattle.service_names.specs.NameAnswers.{entries_of}
 use Rattle.service_names.specs.NodesDropped.{directories_left, node_dropped}
+use Rattle.service_names.specs.NodesMoved.{name_dropped}
 use Rattle.service_names.specs.NodesSized.{file_sized}
 use Rattle.service_names.specs.NamedChanges.{HeldNaming, HeldNode}
-use Rattle.service_names.specs.DroppingChanges.{dropping_of, emptying_of, child_emptied}
-use Rattle.service_names.specs.RenamingChanges.{target_dropped, child_taken, child_hung}
+use Rattle.service_names.specs.DroppingChanges.{dropping_of, emptying_of, child_emptied, losing_of}
+use Rattle.service_names.specs.RenamingChanges.{child_taken, child_hung}
 use Rattle.service_names.specs.Changing.{with_directories, MayBeSet}
 use Rattle.service_names.specs.Naming.{naming_of}
 use Rattle.service.specs.declared.renames.between.Between.{Between}
@@ -48,16 +51,34 @@ emptied_gone n child s =
     with_map (directories_left child.inode.kind child.fileid s.own.directories)
     (node_dropped (dropping_of n (child_emptied child s)) (file_sized (emptying_of child) s))
 
--- a target's directories go with it
-abbrev pub target_left : Option HeldNode → DirectoryMap → DirectoryMap
-target_left None directories = directories
-target_left (Some target) directories = directories_left target.inode.kind target.fileid directories
+-- and a node that has other names loses this one
+abbrev pub name_out : HeldNaming → HeldNode → LogicalSet → LogicalSet
+name_out n child s = with_map s.own.directories (name_dropped (losing_of n child) (file_touch s.stripes child.fileid) s)
 
--- the target is dropped, if there is one
+-- the last name goes: only a file has blocks
+abbrev pub last_out : HeldNaming → HeldNode → InodeKind → LogicalSet → LogicalSet
+last_out n child (RegularFile size filled verifier) s = emptied_gone n child s
+last_out n child kind s = node_gone n child s
+
+-- a name goes, which is the last or isn't
+abbrev pub out_as : Bool → HeldNaming → HeldNode → LogicalSet → LogicalSet
+out_as true n child s = last_out n child child.inode.kind s
+out_as false n child s = name_out n child s
+
+-- the target loses its name, if there is one
 abbrev pub target_out : Between → Option HeldNode → LogicalSet → LogicalSet
 target_out b None s = s
-target_out b (Some target) s =
-    with_map (directories_left target.inode.kind target.fileid s.own.directories) (target_dropped (to_of b s) target target.inode.kind)
+target_out b (Some target) s = out_as (nat_le target.inode.names 1) (to_of b s) target s
+
+-- a directory's entries go with its last name
+abbrev pub left_as : Bool → InodeKind → ℕ → DirectoryMap → DirectoryMap
+left_as true kind fileid directories = directories_left kind fileid directories
+left_as false kind fileid directories = directories
+
+-- so do a target's
+abbrev pub target_left : Option HeldNode → DirectoryMap → DirectoryMap
+target_left None directories = directories
+target_left (Some target) directories = left_as (nat_le target.inode.names 1) target.inode.kind target.fileid directories
 
 -- the entry of the old name
 abbrev pub entry_out : Between → List ℕ → HeldNode → LogicalSet → LogicalSet

@@ -16,7 +16,8 @@ use nfs_values::{Fileid, Status};
 use parcels::LogicalHeld;
 use service_names::Node;
 
-/// The inode of a directory: STALE where there is no node of the fileid, NOTDIR where it is a file.
+/// The inode of a directory: STALE where there is no node of the fileid, NOTDIR where it isn't
+/// one.
 pub(crate) fn directory_at(held: &LogicalHeld<Files>, fileid: Fileid) -> Result<Inode, Status>
     ensures told { (run : values.Inode → LogicalAnswer)
         → on_directory_inode (get held.now.own.inodes.inodes fileid.0) (logical_before held.now) run
@@ -31,6 +32,7 @@ pub(crate) fn directory_at(held: &LogicalHeld<Files>, fileid: Fileid) -> Result<
     };
     match inode.kind {
         InodeKind::RegularFile { .. } => Err(Status::NotDirectory),
+        InodeKind::Special { .. } => Err(Status::NotDirectory),
         InodeKind::Directory { .. } => Ok(inode),
     }
 }

@@ -1,22 +1,20 @@
 //! What hinders a RENAME.
 
-ghost use Rattle.std.specs.Prelude.{◌≡◌, ◌==◌, ◌&&◌, is_none};
+ghost use Rattle.std.specs.Prelude.{◌≡◌, is_none};
 ghost use Rattle.std.specs.Option.{option_map};
-ghost use Rattle.nfs_model.specs.Names.{same_name};
 ghost use Rattle.nfs_values.specs.Status.{status_of};
 ghost use Rattle.inodes.specs.Inode.{kind_value};
-ghost use Rattle.service_names.specs.RenamingChanges.{may_replace, target_may_go};
+ghost use Rattle.service_names.specs.RenamingChanges.{is_held, may_replace, target_may_go};
 ghost use Rattle.filer_state.specs.state.Names.{parent_in};
 ghost use Rattle.filer_state.specs.state.Sets.{logical_before};
 ghost use Rattle.service_names.specs.Naming.{node_value};
 ghost use Rattle.service.specs.renames.Renaming.{names_fault};
 
-use crate::renames::between::Between;
 use filer_state::Files;
 use inodes::InodeKind;
 use nfs_values::Status;
 use parcels::LogicalHeld;
-use service_names::{Node, is_dots, is_empty, is_same_name, name_fault};
+use service_names::{Node, is_dots, is_empty, name_fault};
 
 /// What is wrong with the names: from's first, then to's; INVAL for `.` and `..` in either.
 pub(crate) fn names_fault(from: &[u8], to: &[u8]) -> Option<Status>
@@ -34,12 +32,14 @@ pub(crate) fn names_fault(from: &[u8], to: &[u8]) -> Option<Status>
     None
 }
 
-/// Whether both names are of one entry.
-pub(crate) fn is_one_entry(between: Between, from: &[u8], to: &[u8]) -> bool
-    ensures { result ≡ ((between.from.fileid.0 == between.to.fileid.0)
-        && same_name from.now to.now) }
+/// Whether the target, if there is one, is the node that moves: both names are of one node.
+pub(crate) fn is_one_node(moved: Node, target: Option<Node>) -> bool
+    ensures { result ≡ is_held (node_value moved) (option_map node_value target) }
 {
-    between.from.fileid.0 == between.to.fileid.0 && is_same_name(from, to)
+    match target {
+        Some(target) => target.fileid.0 == moved.fileid.0,
+        None => false,
+    }
 }
 
 /// Whether the target may go, if there is one, for a node that takes its name.
@@ -53,16 +53,17 @@ pub(crate) fn may_go(held: &LogicalHeld<Files>, moved: Node, target: Option<Node
     }
 }
 
-/// Whether a node of a kind may take a target's place: both are files, or both are directories and
-/// the target is empty.
+/// Whether a node of a kind may take a target's place: neither is a directory, or both are and the
+/// target is empty.
 fn may_replace(held: &LogicalHeld<Files>, moved: InodeKind, target: Node) -> bool
     ensures { result ≡ may_replace (logical_before held.now) (kind_value moved)
         target.fileid.0 (kind_value target.inode.kind) }
 {
     match moved {
-        InodeKind::RegularFile { .. } => is_file(target.inode.kind),
+        InodeKind::RegularFile { .. } => is_no_directory(target.inode.kind),
+        InodeKind::Special { .. } => is_no_directory(target.inode.kind),
         InodeKind::Directory { .. } => {
-            if is_file(target.inode.kind) {
+            if is_no_directory(target.inode.kind) {
                 return false;
             }
             is_empty(held, target.fileid)
@@ -70,12 +71,13 @@ fn may_replace(held: &LogicalHeld<Files>, moved: InodeKind, target: Node) -> boo
     }
 }
 
-/// Whether a node of a kind is a file.
-fn is_file(kind: InodeKind) -> bool
+/// Whether a node of a kind isn't a directory.
+fn is_no_directory(kind: InodeKind) -> bool
     ensures { result ≡ is_none (parent_in (kind_value kind)) }
 {
     match kind {
         InodeKind::RegularFile { .. } => true,
+        InodeKind::Special { .. } => true,
         InodeKind::Directory { .. } => false,
     }
 }

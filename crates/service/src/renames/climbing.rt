@@ -36,6 +36,7 @@ pub(crate) fn above_fault(
 {
     match child.inode.kind {
         InodeKind::RegularFile { .. } => None,
+        InodeKind::Special { .. } => None,
         InodeKind::Directory { .. } => {
             if between.from.fileid.0 == between.to.fileid.0 {
                 return None;
@@ -69,7 +70,7 @@ fn climb(held: &LogicalHeld<Files>, target: Fileid, fileid: Fileid) -> Climb
     Climb::TooFar
 }
 
-/// The parent of a directory, if it isn't its own; a file has none.
+/// The parent of a directory, if it isn't its own; nothing else has one.
 fn above(held: &LogicalHeld<Files>, fileid: Fileid) -> Option<Fileid>
     ensures { fileid_number result
         ≡ above fileid.0 (parent_directory (get held.now.own.inodes.inodes fileid.0)) }
@@ -80,6 +81,7 @@ fn above(held: &LogicalHeld<Files>, fileid: Fileid) -> Option<Fileid>
     };
     match inode.kind {
         InodeKind::RegularFile { .. } => None,
+        InodeKind::Special { .. } => None,
         InodeKind::Directory { parent, .. } => {
             if parent.0 == fileid.0 {
                 return None;

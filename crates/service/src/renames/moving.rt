@@ -127,6 +127,7 @@ fn with_dates(inode: Inode, kind: InodeKind, moment: Moment) -> Inode
             ..inode.attributes
         },
         kind: with_child(inode.kind, kind),
+        ..inode
     }
 }
 
@@ -136,6 +137,7 @@ fn hung_inode(inode: Inode, touch: Option<Moment>, between: Between) -> Inode
     ensures attributes { attributes_value result.attributes
         ≡ record (attributes_now (option_map moment_of touch) (attributes_value inode.attributes)
         (kind_value inode.kind)) { ctime = moment_of between.moment } }
+    ensures names { result.names ≡ inode.names }
     ensures kind { kind_value result.kind
         ≡ with_parent between.to.fileid.0 (kind_value inode.kind) }
 {
@@ -145,6 +147,7 @@ fn hung_inode(inode: Inode, touch: Option<Moment>, between: Between) -> Inode
             ..attributes_now(inode, touch)
         },
         kind: with_parent(between.to.fileid, inode.kind),
+        ..inode
     }
 }
 
@@ -154,6 +157,7 @@ fn with_parent(parent: Fileid, kind: InodeKind) -> InodeKind
 {
     match kind {
         InodeKind::RegularFile { .. } => kind,
+        InodeKind::Special { .. } => kind,
         InodeKind::Directory {
             parent: _,
             subdirectories,

@@ -1,24 +1,27 @@
 //! RENAME.
 
-ghost use Rattle.std.specs.Prelude.{◌≡◌, ◌==◌, ◌&&◌, [], false, IfOk, OnErr, OnOk, Some};
-ghost use Rattle.nfs_model.specs.Names.{same_name};
+ghost use Rattle.std.specs.Prelude.{◌≡◌, [], false, IfOk, OnErr, OnOk, Some};
+ghost use Rattle.std.specs.Option.{option_map};
+ghost use Rattle.nfs_model.specs.volume.Directories.{fileid_found};
 ghost use Rattle.nfs_values.specs.Answer.{answer_of};
 ghost use Rattle.nfs_values.specs.declared.answer.Answer.TheVariants as answers;
 ghost use Rattle.nfs_values.specs.Moment.{moment_of};
 ghost use Rattle.parcels.specs.Filled.{logical_alike};
+ghost use Rattle.filer_state.specs.permissions.Refusing.{are_one};
 ghost use Rattle.filer_state.specs.state.Lenses.{logical_lens};
 ghost use Rattle.filer_state.specs.state.Promises.{HasVolume};
 ghost use Rattle.filer_state.specs.state.Sets.{logical_before, logical_after};
 ghost use Rattle.service_names.specs.ChangeLaws.{rename_done};
+ghost use Rattle.service_names.specs.NameAnswers.{entries_of};
 ghost use Rattle.service_names.specs.NamedChanges.{node_under};
-ghost use Rattle.service_names.specs.RenamingChanges.{held_rename};
+ghost use Rattle.service_names.specs.RenamingChanges.{held_rename, is_held};
 ghost use Rattle.service_names.specs.Naming.{node_value};
 ghost use Rattle.service.specs.renames.Moving.{AreThere};
 ghost use Rattle.service.specs.renames.Promises.{Renames};
 ghost use Rattle.service.specs.renames.Renaming.{done_between, rename_found, renaming_in, Renamed};
 
 use crate::renames::as_directory::directory_at;
-use crate::renames::asking::{is_one_entry, may_go, names_fault};
+use crate::renames::asking::{is_one_node, may_go, names_fault};
 use crate::renames::between::Between;
 use crate::renames::climbing::above_fault;
 use crate::renames::entry_name::EntryName;
@@ -34,10 +37,11 @@ use std::alloc::{AllocError, Global};
 /// RENAME (RFC 1813 section 3.3.14), on the parcels of a volume's names and attributes, at a
 /// moment: STALE and NOTDIR of from's directory, then of to's, what is wrong with from's name, then
 /// with to's, INVAL for `.` and `..` in either, NOENT where from's name isn't there. Where both are
-/// one entry nothing changes. INVAL for a directory that would come into itself or below itself,
-/// NAMETOOLONG for one that would come deeper than the volume's steps reach, EXIST where what to's
-/// name is of may not go; else that goes as by REMOVE or RMDIR, and the node has to's name. Memory
-/// runs out only where the node would come under another name, and then nothing has changed.
+/// names of one node nothing changes. INVAL for a directory that would come into itself or below
+/// itself, NAMETOOLONG for one that would come deeper than the volume's steps reach, EXIST where
+/// what has to's name may not go; else that loses the name as by REMOVE or RMDIR, and the node gets
+/// it. Memory runs out only where the node would come under another name, and then nothing has
+/// changed.
 pub fn rename(
     alloc: Global,
     held: &mut LogicalHeld<Files>,
@@ -78,8 +82,10 @@ fn name_moved(
     ensures would { OnErr result (Renamed (rename_done volume.0
         from.entry.directory.0 from.entry.name.now to.entry.directory.0 to.entry.name.now
         (moment_of moment) (logical_before held.old)).answer) }
-    ensures apart { OnErr result (((from.entry.directory.0 == to.entry.directory.0)
-        && same_name from.entry.name.now to.entry.name.now) ≡ false) }
+    ensures apart { OnErr result (are_one
+        (fileid_found (entries_of held.old.own from.entry.directory.0) from.entry.name.now)
+        (fileid_found (entries_of held.old.own to.entry.directory.0) to.entry.name.now)
+        ≡ false) }
     ensures starved { OnErr result (held.new ≡ held.old) }
     ensures alike { logical_alike held.old held.new }
 {
@@ -125,8 +131,9 @@ fn moved_between(
         ≡ (done_between between from_name.now to_name.now (logical_before held.old)).set) }
     ensures would { OnErr result (Renamed
         (done_between between from_name.now to_name.now (logical_before held.old)).answer) }
-    ensures apart { OnErr result (((between.from.fileid.0 == between.to.fileid.0)
-        && same_name from_name.now to_name.now) ≡ false) }
+    ensures apart { OnErr result (are_one
+        (fileid_found (entries_of held.old.own between.from.fileid.0) from_name.now)
+        (fileid_found (entries_of held.old.own between.to.fileid.0) to_name.now) ≡ false) }
     ensures starved { OnErr result (held.new ≡ held.old) }
     ensures alike { logical_alike held.old held.new }
 {
@@ -137,13 +144,14 @@ fn moved_between(
         Some(child) => child,
         None => return Ok(Err(Status::NoEntry)),
     };
-    if is_one_entry(between, from_name, to_name) {
+    let target = child_at(held, between.to.fileid, to_name);
+    if is_one_node(child, target) {
         return Ok(Ok(told(held, between)));
     }
-    child_moved(alloc, held, between, from_name, to_name, child)
+    child_moved(alloc, held, between, from_name, to_name, child, target)
 }
 
-/// What RENAME comes to on the node under from's name, where to's is of another entry.
+/// What RENAME comes to on the node under from's name, where to's isn't of it.
 fn child_moved(
     alloc: Global,
     held: &mut LogicalHeld<Files>,
@@ -151,13 +159,15 @@ fn child_moved(
     from_name: &[u8],
     to_name: &[u8],
     child: Node,
+    target: Option<Node>,
 ) -> Result<Result<RenameResults, Status>, AllocError>
     requires whole { HasVolume between.volume.0 logical_lens [] (logical_before held.old) }
     requires there { AreThere between (logical_before held.old) }
     requires under { Some (node_value child) ≡ node_under (renaming_in between
         from_name.now to_name.now (logical_before held.old)).from }
-    requires apart { ((between.from.fileid.0 == between.to.fileid.0)
-        && same_name from_name.now to_name.now) ≡ false }
+    requires upon { option_map node_value target ≡ node_under (renaming_in between
+        from_name.now to_name.now (logical_before held.old)).to }
+    requires apart { is_held (node_value child) (option_map node_value target) ≡ false }
     requires done { done_between between from_name.now to_name.now (logical_before held.old)
         ≡ rename_found (renaming_in between from_name.now to_name.now
         (logical_before held.old)) (node_value child) }
@@ -173,7 +183,6 @@ fn child_moved(
     if let Some(fault) = above_fault(held, between, child) {
         return Ok(Err(fault));
     }
-    let target = child_at(held, between.to.fileid, to_name);
     if !may_go(held, child, target) {
         return Ok(Err(Status::Exists));
     }

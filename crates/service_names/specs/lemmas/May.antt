@@ -1,5 +1,5 @@
 -- What a sound volume has for a node to be made in it.
-use Rattle.std.proofs.Common.{◌≡◌, ℕ, ◌<◌, true, false, List, Option, Some, None, refl, sym, ap, ◌∙◌, subst, arith, ⊎_elim, []}
+use Rattle.std.proofs.Common.{◌≡◌, ℕ, ◌<◌, true, false, List, Option, Some, None, refl, sym, ap, ◌∙◌, subst, arith, ⊎_elim, [], length}
 use Rattle.std.proofs.lemmas.Bool.Decides.{nat_tests}
 use Rattle.std.specs.Prelude.{is_some, IsSome, IfSome, nat_le}
 use Rattle.std.specs.Option.{option_map}
@@ -8,12 +8,12 @@ use Rattle.nfs_model.specs.Parts.{Hand}
 use Rattle.nfs_model.specs.Types.{Listed}
 use Rattle.depot_rule.specs.Shares.{too_many}
 use Rattle.nfs_model.specs.volume.Directories.{DirectoryValue, found, fileid_found}
-use Rattle.nfs_model.specs.volume.Inodes.{InodeKind, RegularFile, DirectoryKind, Inode, inodes_of_a_volume}
+use Rattle.nfs_model.specs.volume.Inodes.{InodeKind, RegularFile, DirectoryKind, Inode, inodes_of_a_volume, SpecialFile}
 use Rattle.nfs_model.specs.volume.Stripes.{Card}
 use Rattle.nfs_model.specs.volume.lemmas.Inodes.{next-absent}
 use Rattle.inodes.specs.Inode.{inode_value}
 use Rattle.filer_state.specs.state.Contents.{VolumeContents}
-use Rattle.filer_state.specs.state.Names.{root, size_in, is_directory, parent_directory, subdirectories_in, subdirectories_of, directories_listed}
+use Rattle.filer_state.specs.state.Names.{root, size_in, is_directory, parent_directory, subdirectories_in, subdirectories_of, directories_listed, text_length_of}
 use Rattle.filer_state.specs.state.WellFormed.{WellFormed, size_shown}
 use Rattle.filer_state.specs.state.Sound.{IsSound}
 use Rattle.filer_state.specs.state.Lenses.{LogicalSet, logical_lens}
@@ -44,6 +44,10 @@ entered-by (Some d) e = refl
 no-entries : (o : Option DirectoryValue) → is_some o ≡ false → o ≡ None
 no-entries None e = refl
 no-entries (Some d) e = absurd cc
+
+no-text : (o : Option (List ℕ)) → option_map length o ≡ None → o ≡ None
+no-text None e = refl
+no-text (Some text) e = absurd cc
 
 not-found : (o : Option Listed) → option_map (λ (e : Listed). e.fileid) o ≡ None → o ≡ None
 not-found None e = refl
@@ -82,6 +86,7 @@ module _ (p : VolumeContents) (hands hands' : List Hand) (made : ℕ) (few : mad
   links-by : (k : InodeKind) → inode.kind ≡ k → (e : DirectoryValue) → get p.logical.directories d ≡ Some e → get p.logical.inodes.inodes d ≡ Some inode
       → is_full_set (logical_lens.of p) ≡ false → IfSome (subdirectories_in k) (λ subdirectories. subdirectories < inodes_of_a_volume)
   links-by (RegularFile size filled verifier) is e entered there room = tt
+  links-by (SpecialFile special size) is e entered there room = tt
   links-by (DirectoryKind parent subs) is e entered there room =
       let counted : Some subs ≡ Some (directories_listed p.logical.inodes.inodes e.list) =
       sym (ap subdirectories_of there ∙ ap subdirectories_in is) ∙ (well.logical.named.fits d e entered).links in
@@ -113,6 +118,8 @@ module _ (p : VolumeContents) (hands hands' : List Hand) (made : ℕ) (few : mad
         inodes = well.logical.inodes;
         no_directory = no-entries (get p.logical.directories p.logical.inodes.next)
             (well.logical.named.as_directories p.logical.inodes.next ∙ ap is_directory (next-absent p.logical.inodes well.logical.inodes));
+        no_text = no-text (get p.logical.texts p.logical.inodes.next)
+            (well.logical.texts p.logical.inodes.next ∙ ap text_length_of (next-absent p.logical.inodes well.logical.inodes));
         no_card = λ i less.
             shown-none (get (stripe_at p.stripes i).cards p.logical.inodes.next)
             ((well.stripes i (omega (arith, less, many))).cards p.logical.inodes.next

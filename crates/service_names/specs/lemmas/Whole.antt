@@ -3,7 +3,7 @@ use Rattle.std.proofs.Common.{◌≡◌, ℕ, ◌≤◌, false, true, Option, So
 use Rattle.std.specs.Prelude.{is_some}
 use Rattle.std.specs.FinMap.{get}
 use Rattle.nfs_model.specs.volume.Directories.{DirectoryValue}
-use Rattle.nfs_model.specs.volume.Inodes.{InodeKind, RegularFile, DirectoryKind, Inode}
+use Rattle.nfs_model.specs.volume.Inodes.{InodeKind, RegularFile, DirectoryKind, Inode, SpecialFile}
 use Rattle.filer_state.specs.state.Contents.{VolumeContents}
 use Rattle.filer_state.specs.state.Names.{is_directory, parent_in, subdirectories_in, subdirectories_of, directories_listed}
 use Rattle.filer_state.specs.state.WellFormed.{WellFormed}
@@ -18,6 +18,7 @@ few-links p well fileid inode there = by inode.kind refl
   where
     by : (kind : InodeKind) → inode.kind ≡ kind → HasFewLinks kind
     by (RegularFile size filled verifier) is = tt
+    by (SpecialFile special size) is = tt
     by (DirectoryKind parent subs) is = listed (get p.logical.directories fileid) refl
       where
         as_directory : is_directory (get p.logical.inodes.inodes fileid) ≡ true

@@ -17,6 +17,7 @@ returns c =
     c.stripes_of.result c.largest_of.result c.inodes_of.result c.steps_of.result c.range_blocks_of.result c.stripes_of.ensures.stripes
     c.largest_of.ensures.largest c.inodes_of.ensures.inodes c.steps_of.ensures c.range_blocks_of.ensures.blocks
     (ownership_of c.root_of.result) c.root_of.ensures (moment_of c.begun_of.result) c.begun_of.ensures
-    c.in_ok-new.field-0 c.new-directories.result _ c.new.result c.new-3.result c.in_ok-new-2.field-0 c.remembered_of.result c.remembered_of.ensures
+    c.in_ok-new.field-0 c.new-directories.result _ c.new.result c.new-3.result c.new-4.result c.in_ok-new-2.field-0 c.remembered_of.result c.remembered_of.ensures
     c.in_ok-new-3.field-0 c.in_ok-new-3.ensures.memos c.in_ok-new.ensures
-    c.new-directories.ensures c.new.ensures c.in_ok-insert.ensures.ok c.new-3.ensures c.in_ok-new-2.ensures) c.new-6.result c.new-6.ensures
+    c.new-directories.ensures c.new.ensures c.in_ok-insert.ensures.ok c.new-3.ensures c.new-4.ensures c.in_ok-new-2.ensures) c.new-7.result
+    c.new-7.ensures

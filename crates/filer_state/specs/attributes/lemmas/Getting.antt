@@ -1,5 +1,5 @@
 -- What is shown of a node is what its inode and its stripes tell.
-use Rattle.std.proofs.Common.{◌≡◌, ℕ, ◌+◌, ◌*◌, true, false, List, [], ◌∷◌, length, Option, Some, None, refl, sym, ap, ◌∙◌, subst, arith}
+use Rattle.std.proofs.Common.{◌≡◌, ℕ, ◌+◌, true, false, List, [], ◌∷◌, Option, Some, None, refl, sym, ap, ◌∙◌, subst, arith}
 use Rattle.std.specs.Prelude.{is_some}
 use Rattle.std.specs.Option.{option_map}
 use Rattle.std.specs.Cmp.{nat_cmp_total}
@@ -8,15 +8,15 @@ use Rattle.std.proofs.lemmas.List.FromFn.{length-map-range_with_len}
 use Rattle.nfs_model.specs.Types.{Listed, Success, GetattrDone}
 use Rattle.nfs_model.specs.Tree.{Affinity}
 use Rattle.nfs_model.specs.Locate.{on_node, Tells}
-use Rattle.nfs_model.specs.Server.{Node, VolumeState, block_size}
+use Rattle.nfs_model.specs.Server.{Node, VolumeState}
 use Rattle.nfs_model.specs.Shown.{shown, subdirectories, is_directory_node}
 use Rattle.nfs_model.specs.Parts.{Hand, one_if}
 use Rattle.nfs_model.specs.volume.Directories.{DirectoryValue}
-use Rattle.nfs_model.specs.volume.Inodes.{InodeKind, RegularFile, DirectoryKind, Inode, filled_blocks}
+use Rattle.nfs_model.specs.volume.Inodes.{InodeKind, DirectoryKind, Inode}
 use Rattle.nfs_model.specs.volume.lemmas.Maps.{get-map_values}
 use Rattle.filer_state.specs.state.Contents.{VolumeContents}
-use Rattle.filer_state.specs.state.Tree.{file_byte, file_bytes, file_filled, file_touch, directory_or_empty, node_by, node_of, volume_of}
-use Rattle.filer_state.specs.state.Names.{is_directory, directories_listed, subdirectories_of, subdirectories_in}
+use Rattle.filer_state.specs.state.Tree.{file_byte, file_bytes, file_filled, file_touch, directory_or_empty, node_by, node_of, volume_of, text_or_empty}
+use Rattle.filer_state.specs.state.Names.{is_directory, directories_listed, subdirectories_of, subdirectories_in, text_length_of}
 use Rattle.filer_state.specs.state.WellFormed.{WellFormed}
 use Rattle.filer_state.specs.state.Partition.{times_in_hand}
 use Rattle.filer_state.specs.state.Sound.{IsSound}
@@ -24,25 +24,25 @@ use Rattle.filer_state.specs.state.Jobs.{Replied}
 use Rattle.filer_state.specs.state.Lenses.{Lens, LogicalSet, logical_lens}
 use Rattle.filer_state.specs.state.Promises.{RightOnVolume}
 use Rattle.filer_state.specs.state.Calls.{ServesOn, answer_of, volume_left}
-use Rattle.filer_state.specs.state.Changes.{shown_kind, shown_inode, getattr_answer}
+use Rattle.filer_state.specs.state.Changes.{shown_inode, getattr_answer}
 use Rattle.filer_state.specs.attributes.Laws.{getattr_call}
+use Rattle.filer_state.specs.laws.lemmas.InodeKinds.{counted-directory, shown-with, text-told}
 use Rattle.filer_state.specs.laws.lemmas.Steps.{sound-later}
-use Rattle.std.specs.FinSet as sets
 
 module _ (p : VolumeContents) where
   -- the node of a fileid
-  pub node-at : (q : ℕ) → get (volume_of p).nodes q ≡ option_map (node_of p.stripes p.logical.directories q) (get p.logical.inodes.inodes q)
-  node-at q = get-map_values nat_cmp_total nat_cmp-IsAntisymmetric (node_of p.stripes p.logical.directories) p.logical.inodes.inodes q
+  pub node-at : (q : ℕ) → get (volume_of p).nodes q ≡ option_map (node_of p.stripes p.logical.directories p.logical.texts q) (get p.logical.inodes.inodes q)
+  node-at q = get-map_values nat_cmp_total nat_cmp-IsAntisymmetric (node_of p.stripes p.logical.directories p.logical.texts) p.logical.inodes.inodes q
 
   directory-node : (q : ℕ) → is_directory_node (get (volume_of p).nodes q) ≡ is_directory (get p.logical.inodes.inodes q)
   directory-node q = ap is_directory_node (node-at q) ∙ by (get p.logical.inodes.inodes q)
     where
       kind : (a : Inode) (k : InodeKind)
-          → is_directory_node (Some (node_by p.stripes (get p.logical.directories q) q a.attributes k)) ≡ is_directory (Some (record a { kind = k }))
-      kind a (RegularFile size filled verifier) = refl
+          → is_directory_node (Some (node_by p.stripes (get p.logical.directories q) (get p.logical.texts q) q a.attributes a.names k)) ≡ is_directory (Some (record a { kind = k }))
       kind a (DirectoryKind parent subdirectories) = refl
+      kind a other = refl
 
-      by : (o : Option Inode) → is_directory_node (option_map (node_of p.stripes p.logical.directories q) o) ≡ is_directory o
+      by : (o : Option Inode) → is_directory_node (option_map (node_of p.stripes p.logical.directories p.logical.texts q) o) ≡ is_directory o
       by None = refl
       by (Some inode) = kind inode inode.kind
 
@@ -56,11 +56,10 @@ module _ (p : VolumeContents) where
       omega (arith, here, others)
 
   module _ (well : WellFormed p) where
-    links : (fileid : ℕ) (inode : Inode) (parent subs : ℕ) → get p.logical.inodes.inodes fileid ≡ Some inode → inode.kind ≡ DirectoryKind parent subs
+    links : (fileid : ℕ) (inode : Inode) → get p.logical.inodes.inodes fileid ≡ Some inode → (subs : ℕ) → subdirectories_in inode.kind ≡ Some subs
         → subdirectories (volume_of p).nodes (directory_or_empty (get p.logical.directories fileid)).list ≡ subs
-    links fileid inode parent subs there is =
-        let as_directory : is_directory (get p.logical.inodes.inodes fileid) ≡ true =
-        ap is_directory there ∙ ap (λ k. is_directory (Some (record inode { kind = k }))) is in
+    links fileid inode there subs is =
+        let as_directory : is_directory (get p.logical.inodes.inodes fileid) ≡ true = ap is_directory there ∙ counted-directory inode.kind subs is in
         by (get p.logical.directories fileid) refl (well.logical.named.as_directories fileid ∙ as_directory)
       where
         by : (o : Option DirectoryValue) → get p.logical.directories fileid ≡ o → is_some (get p.logical.directories fileid) ≡ true
@@ -69,27 +68,19 @@ module _ (p : VolumeContents) where
         by (Some d) e some =
             let fits = well.logical.named.fits fileid d e in
             let says : Some subs ≡ Some (directories_listed p.logical.inodes.inodes d.list) =
-            sym (ap subdirectories_of there ∙ ap subdirectories_in is) ∙ fits.links in
+            sym (ap subdirectories_of there ∙ is) ∙ fits.links in
             let same : subs ≡ directories_listed p.logical.inodes.inodes d.list = cc in
             subdirectories-are d.list ∙ sym same
 
     -- attributes by the inode
     pub node-shown : (fileid : ℕ) (inode : Inode) → get p.logical.inodes.inodes fileid ≡ Some inode
-        → shown (volume_of p) fileid (node_of p.stripes p.logical.directories fileid inode) ≡ shown_inode p.number fileid inode (file_touch p.stripes fileid)
-    node-shown fileid inode there = by inode.kind refl (well.filled fileid inode there)
-      where
-        by : (kind : InodeKind) → inode.kind ≡ kind → filled_blocks kind ≡ sets.len (file_filled p.stripes fileid)
-            → shown (volume_of p) fileid (node_by p.stripes (get p.logical.directories fileid) fileid inode.attributes kind)
-            ≡ shown_kind p.number fileid inode.attributes kind (file_touch p.stripes fileid)
-        by (RegularFile size filled verifier) is e =
-            let long : length (file_bytes p.stripes fileid size) ≡ size = length-map-range_with_len (file_byte p.stripes fileid) 0 size in
-            λ j. record (shown_kind p.number fileid inode.attributes (RegularFile size filled verifier) (file_touch p.stripes fileid)) {
-              size = long j;
-              used = block_size * sym e j;
-            }
-        by (DirectoryKind parent subs) is e =
-            let l = links fileid inode parent subs there is in
-            λ j. record (shown_kind p.number fileid inode.attributes (DirectoryKind parent subs) (file_touch p.stripes fileid)) { links = 2 + l j }
+        → shown (volume_of p) fileid (node_of p.stripes p.logical.directories p.logical.texts fileid inode) ≡ shown_inode p.number fileid inode (file_touch p.stripes fileid)
+    node-shown fileid inode there = shown-with (volume_of p) fileid (file_bytes p.stripes fileid) (file_filled p.stripes fileid)
+        (file_touch p.stripes fileid) (directory_or_empty (get p.logical.directories fileid)) (text_or_empty (get p.logical.texts fileid)) inode.attributes
+        inode.names
+        (λ size. length-map-range_with_len (file_byte p.stripes fileid) 0 size) inode.kind (well.filled fileid inode there)
+        (links fileid inode there)
+        (text-told (get p.logical.texts fileid) inode.kind (well.logical.texts fileid ∙ ap text_length_of there))
 
 -- ---- calls that change nothing
 
@@ -119,7 +110,7 @@ getattr-right v fileid handle node set =
   where
     told : (p : VolumeContents) (hands : List Hand) (made : ℕ) → IsSound p hands made → (o : Option Inode) → get p.logical.inodes.inodes fileid ≡ o
         → getattr_answer p.number fileid o (file_touch p.stripes fileid)
-        ≡ answer_of 0 (on_node (option_map (node_of p.stripes p.logical.directories fileid) o)
+        ≡ answer_of 0 (on_node (option_map (node_of p.stripes p.logical.directories p.logical.texts fileid) o)
         (λ node. Tells (GetattrDone (shown (volume_of p) fileid node))))
     told p hands made sound None e = refl
     told p hands made sound (Some inode) e = ap GetattrDone (sym (node-shown p sound.well_formed fileid inode e))

@@ -11,7 +11,7 @@ use Rattle.nfs_model.specs.volume.Stripes.{Card, OfFile, OfDirectory, StripeValu
 use Rattle.nfs_model.specs.volume.lemmas.Inodes.{inode-set-there, inode-set-other}
 use Rattle.nfs_model.specs.volume.lemmas.Numbered.{get-changed_at}
 use Rattle.filer_state.specs.state.Tree.{stripe_at, file_bytes, file_filled, file_touch, later}
-use Rattle.filer_state.specs.state.Names.{InodeMap, DirectoryMap, size_in, size_of, parent_in, parent_directory, subdirectories_in, subdirectories_of}
+use Rattle.filer_state.specs.state.Names.{InodeMap, DirectoryMap, size_in, size_of, parent_in, parent_directory, subdirectories_in, subdirectories_of, names_of, text_length_in, text_length_of}
 use Rattle.filer_state.specs.state.Names.{AreNamed}
 use Rattle.filer_state.specs.state.WellFormed.{size_shown, owner_shown}
 use Rattle.filer_state.specs.state.Changes.{touches_taken}
@@ -90,12 +90,18 @@ module _ (f : ℕ) where
 
 -- ---- kinds that stay
 
--- the same inodes, each of the same kind
-abbrev pub SameKinds : InodeMap → InodeMap → Type 0
-SameKinds new old = (q : ℕ) → option_map (λ (i : Inode). i.kind) (get new q) ≡ option_map (λ (i : Inode). i.kind) (get old q)
-
 abbrev kind_of : Option Inode → Option InodeKind
 kind_of o = option_map (λ (i : Inode). i.kind) o
+
+-- the same inodes, each of the same kind and with as many names
+pub record SameKinds (new old : InodeMap) : Type 0 where
+  pub kinds : (q : ℕ) → kind_of (get new q) ≡ kind_of (get old q)
+  pub counts : (q : ℕ) → names_of (get new q) ≡ names_of (get old q)
+
+-- an inode of the kind of an old one, with as many names
+pub record IsLike (inode old : Inode) : Type 0 where
+  pub kind : inode.kind ≡ old.kind
+  pub names : inode.names ≡ old.names
 
 pub size-same : (o p : Option Inode) → kind_of o ≡ kind_of p → size_of o ≡ size_of p
 size-same None None e = refl
@@ -122,28 +128,31 @@ subdirectories-same None (Some b) e = absurd cc
 subdirectories-same (Some a) None e = absurd cc
 subdirectories-same (Some a) (Some b) e = let k : a.kind ≡ b.kind = cc in ap subdirectories_in k
 
-some-same : (o p : Option Inode) → kind_of o ≡ kind_of p → is_some o ≡ is_some p
-some-same None None e = refl
-some-same None (Some b) e = absurd cc
-some-same (Some a) None e = absurd cc
-some-same (Some a) (Some b) e = refl
+pub text-same : (o p : Option Inode) → kind_of o ≡ kind_of p → text_length_of o ≡ text_length_of p
+text-same None None e = refl
+text-same None (Some b) e = absurd cc
+text-same (Some a) None e = absurd cc
+text-same (Some a) (Some b) e = let k : a.kind ≡ b.kind = cc in ap text_length_in k
 
 -- names stay lawful
 pub named-same : (new old : InodeMap) → SameKinds new old → (directories : DirectoryMap) → AreNamed old directories → AreNamed new directories
 named-same new old same directories named = names.named-same new old (record {
-  parents = λ q. parent-same (get new q) (get old q) (same q);
-  subdirectories = λ q. subdirectories-same (get new q) (get old q) (same q);
-  there = λ q. some-same (get new q) (get old q) (same q);
-}) directories named
+  parents = λ q. parent-same (get new q) (get old q) (same.kinds q);
+  subdirectories = λ q. subdirectories-same (get new q) (get old q) (same.kinds q);
+}) same.counts directories named
 
 -- an inode set of the kind that was there
-pub set-kinds : (v : InodesValue) (fileid : ℕ) (old inode : Inode) → inode_of v fileid ≡ Some old → inode.kind ≡ old.kind
+pub set-kinds : (v : InodesValue) (fileid : ℕ) (old inode : Inode) → inode_of v fileid ≡ Some old → IsLike inode old
     → SameKinds (inode_set fileid inode v).inodes v.inodes
-set-kinds v fileid old inode there same q = by (q == fileid) refl
+set-kinds v fileid old inode there like = record {
+  kinds = λ q. by kind_of (ap Some like.kind) q (q == fileid) refl;
+  counts = λ q. by names_of like.names q (q == fileid) refl;
+}
   where
-    by : (b : Bool) → (q == fileid) ≡ b → kind_of (get (inode_set fileid inode v).inodes q) ≡ kind_of (get v.inodes q)
-    by true e =
+    by : {A : Type 0} (g : Option Inode → A) → g (Some inode) ≡ g (Some old) → (q : ℕ) (b : Bool) → (q == fileid) ≡ b
+        → g (get (inode_set fileid inode v).inodes q) ≡ g (get v.inodes q)
+    by g same q true e =
         let is : q ≡ fileid = eqb-true q fileid e in
-        ap (λ (k : ℕ). kind_of (get (inode_set fileid inode v).inodes k)) is ∙ ap kind_of (inode-set-there v fileid old inode there)
-        ∙ ap Some same ∙ sym (ap (λ (k : ℕ). kind_of (get v.inodes k)) is ∙ ap kind_of there)
-    by false e = ap kind_of (inode-set-other v fileid inode q e)
+        ap (λ (k : ℕ). g (get (inode_set fileid inode v).inodes k)) is ∙ ap g (inode-set-there v fileid old inode there)
+        ∙ same ∙ sym (ap (λ (k : ℕ). g (get v.inodes k)) is ∙ ap g there)
+    by g same q false e = ap g (inode-set-other v fileid inode q e)

@@ -5,7 +5,7 @@ use Rattle.std.specs.Option.{option_map}
 use Rattle.std.specs.FinMap.{get}
 use Rattle.nfs_model.specs.Types.{Answer, Call, Caller, Ownership, Status, Success, Failed}
 use Rattle.nfs_model.specs.Tree.{Affinity}
-use Rattle.nfs_model.specs.Server.{Attributes, Node, File, Directory, VolumeState}
+use Rattle.nfs_model.specs.Server.{Attributes, Node, File, VolumeState}
 use Rattle.nfs_model.specs.Locate.{Effect, Fails}
 use Rattle.nfs_model.specs.Serial.Absent.{absent_parts}
 use Rattle.nfs_model.specs.Serial.Rights.{Protection, ownership_of}
@@ -14,7 +14,7 @@ use Rattle.nfs_model.specs.Serial.Starve.{takes_memory}
 use Rattle.nfs_model.specs.Moves.{PartsChange}
 use Rattle.nfs_model.specs.Work.{Outcome, Replied, Starved, Moved}
 use Rattle.nfs_model.specs.Parts.{Hand}
-use Rattle.nfs_model.specs.volume.Inodes.{InodeKind, RegularFile, DirectoryKind, Inode}
+use Rattle.nfs_model.specs.volume.Inodes.{InodeKind, RegularFile, Inode}
 use Rattle.nfs_model.specs.volume.Stripes.{Card}
 use Rattle.filer_state.specs.state.Contents.{VolumeContents}
 use Rattle.filer_state.specs.state.Tree.{node_by, node_of, volume_of}
@@ -84,24 +84,25 @@ module _ (call : Call) (node : Affinity) (fileid : ℕ) (one two : Caller) (run 
 abbrev pub owner_seen : Option Node → Option Ownership
 owner_seen None = None
 owner_seen (Some (File g)) = Some (ownership_of g.attributes)
-owner_seen (Some (Directory d)) = None
+owner_seen (Some node) = None
 
 pub asked-seen : (x : Option Node) (ask : Protection → Option Status) → of_file x ask ≡ of_owner (owner_seen x) ask
 asked-seen None ask = refl
 asked-seen (Some (File g)) ask = refl
-asked-seen (Some (Directory d)) ask = refl
+asked-seen (Some node) ask = refl
 
 -- the node's is the inode's
 pub seen-owner : (p : VolumeContents) (f : ℕ) → owner_seen (get (volume_of p).nodes f) ≡ owner_at (get p.logical.inodes.inodes f)
 seen-owner p f = ap owner_seen (node-at p f) ∙ by (get p.logical.inodes.inodes f)
   where
-    kind : (a : Attributes) (k : InodeKind) → owner_seen (Some (node_by p.stripes (get p.logical.directories f) f a k)) ≡ owner_by a k
-    kind a (RegularFile size filled verifier) = refl
-    kind a (DirectoryKind parent subdirectories) = refl
+    kind : (a : Attributes) (names : ℕ) (k : InodeKind)
+        → owner_seen (Some (node_by p.stripes (get p.logical.directories f) (get p.logical.texts f) f a names k)) ≡ owner_by a k
+    kind a names (RegularFile size filled verifier) = refl
+    kind a names other = refl
 
-    by : (o : Option Inode) → owner_seen (option_map (node_of p.stripes p.logical.directories f) o) ≡ owner_at o
+    by : (o : Option Inode) → owner_seen (option_map (node_of p.stripes p.logical.directories p.logical.texts f) o) ≡ owner_at o
     by None = refl
-    by (Some inode) = kind inode.attributes inode.kind
+    by (Some inode) = kind inode.attributes inode.names inode.kind
 
 -- and so is the card's
 pub card-owner : (card : Option Card) (inode : Option Inode) → option_map owner_shown card ≡ option_map owner_in inode → owner_on card ≡ owner_at inode

@@ -14,9 +14,10 @@ use Rattle.nfs_model.specs.Locate.{Effect, Fails, Tells, Changes, unless, on_fil
 use Rattle.nfs_model.specs.Serial.Setattr.{with_node}
 use Rattle.nfs_model.specs.Serial.Write.{Writing, bytes_kept, need, space_fault, write_some, written_file}
 use Rattle.nfs_model.specs.Work.{Ready, move_by, move_if, ready, ready_bytes}
-use Rattle.nfs_model.specs.volume.Inodes.{InodeKind, RegularFile, DirectoryKind, Inode}
+use Rattle.nfs_model.specs.volume.Inodes.{InodeKind, RegularFile, Inode}
 use Rattle.filer_state.specs.state.Contents.{VolumeContents}
 use Rattle.filer_state.specs.state.Tree.{node_by, node_of, volume_of}
+use Rattle.filer_state.specs.state.Kinds.{IsFile}
 use Rattle.filer_state.specs.state.Partition.{parts_of}
 use Rattle.filer_state.specs.state.Calls.{VolumeCall, unasked, located_on, move_on}
 use Rattle.filer_state.specs.attributes.lemmas.Getting.{node-at}
@@ -56,7 +57,7 @@ module _ (p : VolumeContents) (f : ℕ) (handle : List ℕ) (w : Writing) (node 
     pub blocks : ℕ
     pub verifier : Option (List ℕ)
     pub there : get p.logical.inodes.inodes f ≡ Some inode
-    pub is_file : inode.kind ≡ RegularFile size blocks verifier
+    pub is_file : IsFile inode.kind size blocks verifier
     pub some : 0 < length (bytes_kept w)
     pub fits : nat_lt p.logical.largest (w.offset + length (bytes_kept w)) ≡ false
     pub node_is : get seen.nodes f ≡ Some (File (file_before p f inode size verifier))
@@ -82,7 +83,7 @@ module _ (p : VolumeContents) (f : ℕ) (handle : List ℕ) (w : Writing) (node 
   -- ---- a file
 
   module _ (inode : Inode) (there : get p.logical.inodes.inodes f ≡ Some inode) (size blocks : ℕ) (verifier : Option (List ℕ))
-      (is_file : inode.kind ≡ RegularFile size blocks verifier) where
+      (is_file : IsFile inode.kind size blocks verifier) where
     abbrev file : FileNode
     file = file_before p f inode size verifier
 
@@ -91,8 +92,8 @@ module _ (p : VolumeContents) (f : ℕ) (handle : List ℕ) (w : Writing) (node 
 
     node-is : get seen.nodes f ≡ Some (File file)
     node-is =
-        node-at p f ∙ ap (option_map (node_of p.stripes p.logical.directories f)) there
-        ∙ ap (λ kind. Some (node_by p.stripes (get p.logical.directories f) f inode.attributes kind)) is_file
+        node-at p f ∙ ap (option_map (node_of p.stripes p.logical.directories p.logical.texts f)) there
+        ∙ ap (λ kind. Some (node_by p.stripes (get p.logical.directories f) (get p.logical.texts f) f inode.attributes inode.names kind)) is_file
 
     as-many : (w.count == length w.written) ≡ true → min w.count most_bytes ≡ n
     as-many e =
@@ -173,13 +174,13 @@ module _ (p : VolumeContents) (f : ℕ) (handle : List ℕ) (w : Writing) (node 
       of-kind : (inode : Inode) → get p.logical.inodes.inodes f ≡ Some inode → (kind : InodeKind) → inode.kind ≡ kind
           → Checked (kind_due kind p.logical.largest w)
       of-kind inode there (RegularFile size blocks verifier) is = by-checks inode there size blocks verifier is
-      of-kind inode there (DirectoryKind parent subs) is =
-          no-file (option_map (node_of p.stripes p.logical.directories f) (Some (record inode { kind = DirectoryKind parent subs }))) Invalid
-          (node-at p f ∙ ap (option_map (node_of p.stripes p.logical.directories f)) there
-          ∙ ap (λ kind. Some (node_by p.stripes (get p.logical.directories f) f inode.attributes kind)) is)
+      of-kind inode there kind is =
+          no-file (option_map (node_of p.stripes p.logical.directories p.logical.texts f) (Some (record inode { kind = kind }))) Invalid
+          (node-at p f ∙ ap (option_map (node_of p.stripes p.logical.directories p.logical.texts f)) there
+          ∙ ap (λ k. Some (node_by p.stripes (get p.logical.directories f) (get p.logical.texts f) f inode.attributes inode.names k)) is)
           refl refl
 
       by : (o : Option Inode) → get p.logical.inodes.inodes f ≡ o → Checked (bytes_due o p.logical.largest w)
       by None there =
-          no-file None Stale (node-at p f ∙ ap (option_map (node_of p.stripes p.logical.directories f)) there) refl refl
+          no-file None Stale (node-at p f ∙ ap (option_map (node_of p.stripes p.logical.directories p.logical.texts f)) there) refl refl
       by (Some inode) there = of-kind inode there inode.kind refl

@@ -4,14 +4,15 @@ use Rattle.std.specs.Prelude.{if◌then◌else◌}
 use Rattle.std.specs.List.{range_with_len}
 use Rattle.std.specs.Option.{option_map}
 use Rattle.std.specs.FinMap.{get, insert}
-use Rattle.nfs_model.specs.Server.{Node, File, VolumeState}
+use Rattle.nfs_model.specs.Server.{Node, VolumeState}
 use Rattle.nfs_model.specs.Serial.Setattr.{with_node}
-use Rattle.nfs_model.specs.volume.Inodes.{InodeKind, RegularFile, DirectoryKind, Inode}
+use Rattle.nfs_model.specs.volume.Inodes.{Inode}
 use Rattle.nfs_model.specs.volume.Stripes.{StripeValue}
 use Rattle.nfs_model.specs.volume.lemmas.Inodes.{inode-set-other, next-set}
 use Rattle.nfs_model.specs.volume.lemmas.Numbered.{get-insert_at, insert-twice, insert-same, same-answers}
 use Rattle.filer_state.specs.state.Contents.{VolumeContents}
-use Rattle.filer_state.specs.state.Tree.{node_by, node_of, volume_of}
+use Rattle.filer_state.specs.state.Tree.{directory_or_empty, node_with, node_of, volume_of, text_or_empty}
+use Rattle.filer_state.specs.state.Kinds.{IsFile}
 use Rattle.filer_state.specs.state.WellFormed.{WellFormed}
 use Rattle.filer_state.specs.attributes.lemmas.Getting.{node-at}
 use Rattle.filer_state.specs.bytes.lemmas.Refiled.{Refiles, refiled, next_inode, byte-other, filled-other, touch-other}
@@ -29,7 +30,7 @@ pub put-same : (v : VolumeState) (f : ℕ) (x : Node) → get v.nodes f ≡ Some
 put-same v f x there = λ j. record v { nodes = sym (insert-same v.nodes f x there) j }
 
 module _ (p : VolumeContents) (f : ℕ) (inode : Inode) (old_size blocks : ℕ) (verifier : Option (List ℕ)) (size more : ℕ) (stripes : List StripeValue)
-    (there : get p.logical.inodes.inodes f ≡ Some inode) (is_file : inode.kind ≡ RegularFile old_size blocks verifier)
+    (there : get p.logical.inodes.inodes f ≡ Some inode) (is_file : IsFile inode.kind old_size blocks verifier)
     (well : WellFormed p) (small : size ≤ p.logical.largest) (new : Refiles p f size more stripes) where
   abbrev next : Inode
   next = next_inode inode size (blocks + more) verifier
@@ -38,24 +39,17 @@ module _ (p : VolumeContents) (f : ℕ) (inode : Inode) (old_size blocks : ℕ) 
   after = refiled f next stripes p
 
   abbrev now : ℕ → Inode → Node
-  now = node_of after.stripes after.logical.directories
+  now = node_of after.stripes after.logical.directories after.logical.texts
 
   abbrev was : ℕ → Inode → Node
-  was = node_of p.stripes p.logical.directories
+  was = node_of p.stripes p.logical.directories p.logical.texts
 
   other-node : (q : ℕ) → (q == f) ≡ false → (x : Inode) → now q x ≡ was q x
-  other-node q ne x = by x.kind
-    where
-      by : (kind : InodeKind) → node_by stripes (get p.logical.directories q) q x.attributes kind
-          ≡ node_by p.stripes (get p.logical.directories q) q x.attributes kind
-      by (RegularFile n filled other) = λ j. File (record {
-        attributes = x.attributes;
-        bytes = map (λ k. byte-other p f inode old_size blocks verifier size more stripes there is_file well small new q ne k j) (range_with_len 0 n);
-        filled = filled-other p f inode old_size blocks verifier size more stripes there is_file well small new q ne j;
-        touch = touch-other p f inode old_size blocks verifier size more stripes there is_file well small new q ne j;
-        verifier = other;
-      })
-      by (DirectoryKind parent subdirectories) = refl
+  other-node q ne x = λ j. node_with
+      (λ n. map (λ k. byte-other p f inode old_size blocks verifier size more stripes there is_file well small new q ne k j) (range_with_len 0 n))
+      (filled-other p f inode old_size blocks verifier size more stripes there is_file well small new q ne j)
+      (touch-other p f inode old_size blocks verifier size more stripes there is_file well small new q ne j)
+      (directory_or_empty (get p.logical.directories q)) (text_or_empty (get p.logical.texts q)) x.attributes x.names x.kind
 
   pub seen-alike : SeenAlike f after p
   seen-alike x = λ j. record (volume_of p) { next = next-set p.logical.inodes f next j; nodes = nodes j }

@@ -6,12 +6,12 @@ use Rattle.std.specs.FinMap.{get}
 use Rattle.std.specs.FinSet.{from_list}
 use Rattle.nfs_model.specs.Types.{Ownership}
 use Rattle.nfs_model.specs.Tree.{Affinity}
-use Rattle.nfs_model.specs.Server.{Attributes, FileNode, Node, File, Directory, VolumeState, used}
+use Rattle.nfs_model.specs.Server.{Attributes, FileNode, Node, File, Directory, Special, VolumeState, used}
 use Rattle.nfs_model.specs.Parts.{Hand}
 use Rattle.nfs_model.specs.Serial.Rights.{ownership_of, without_set_ids}
 use Rattle.nfs_model.specs.Serial.Setattr.{with_node}
 use Rattle.nfs_model.specs.Serial.Write.{Writing, bytes_kept, written_file, file_taken, clears_set_ids}
-use Rattle.nfs_model.specs.volume.Inodes.{InodeKind, RegularFile, DirectoryKind, Inode}
+use Rattle.nfs_model.specs.volume.Inodes.{InodeKind, RegularFile, Inode}
 use Rattle.nfs_model.specs.volume.Stripes.{StripeValue}
 use Rattle.nfs_model.specs.volume.lemmas.Inodes.{used-set-same}
 use Rattle.nfs_model.specs.volume.lemmas.Numbered.{get-insert_at, insert-twice, itself}
@@ -41,20 +41,21 @@ numbers-stay f owner (s ∷ stripes) = ap (λ ns. numbers_in s ++ ns) (numbers-s
 abbrev stored_in : Node → Attributes
 stored_in (File g) = g.attributes
 stored_in (Directory d) = d.attributes
+stored_in (Special s) = s.attributes
 
 -- an inode that is there, and its node
 record Next (q : VolumeContents) (f : ℕ) (node : Node) : Type 0 where
   pub inode : Inode
   pub there : get q.logical.inodes.inodes f ≡ Some inode
-  pub is : node_of q.stripes q.logical.directories f inode ≡ node
+  pub is : node_of q.stripes q.logical.directories q.logical.texts f inode ≡ node
 
 next-of : (q : VolumeContents) (f : ℕ) (node : Node) → get (volume_of q).nodes f ≡ Some node → Next q f node
 next-of q f node seen = by (get q.logical.inodes.inodes f) refl (sym (node-at q f) ∙ seen)
   where
-    by : (o : Option Inode) → get q.logical.inodes.inodes f ≡ o → option_map (node_of q.stripes q.logical.directories f) o ≡ Some node → Next q f node
+    by : (o : Option Inode) → get q.logical.inodes.inodes f ≡ o → option_map (node_of q.stripes q.logical.directories q.logical.texts f) o ≡ Some node → Next q f node
     by None there e = absurd cc
     by (Some inode) there e =
-        let is : node_of q.stripes q.logical.directories f inode ≡ node = cc in record { inode = inode; there = there; is = is }
+        let is : node_of q.stripes q.logical.directories q.logical.texts f inode ≡ node = cc in record { inode = inode; there = there; is = is }
 
 module _ (p q : VolumeContents) (f : ℕ) (handle : List ℕ) (w : Writing) (node : Affinity) (bytes : SomeBytes p f handle w node)
     (clears : clears_owned w.caller (owner_at (get p.logical.inodes.inodes f)) ≡ true) (hands : List Hand) (made : ℕ) (sound : IsSound q hands made)
@@ -80,11 +81,12 @@ module _ (p q : VolumeContents) (f : ℕ) (handle : List ℕ) (w : Writing) (nod
       ∙ ap (λ (b : Bool). if b then Some (File now) else get (volume_of p).nodes f) (itself f))
 
   attributes : next.inode.attributes ≡ bytes.inode.attributes
-  attributes = sym (by next.inode.attributes next.inode.kind) ∙ ap stored_in next.is
+  attributes = sym (by next.inode.attributes next.inode.names next.inode.kind) ∙ ap stored_in next.is
     where
-      by : (a : Attributes) (k : InodeKind) → stored_in (node_by q.stripes (get q.logical.directories f) f a k) ≡ a
-      by a (RegularFile size filled verifier) = refl
-      by a (DirectoryKind parent subdirectories) = refl
+      by : (a : Attributes) (names : ℕ) (k : InodeKind)
+          → stored_in (node_by q.stripes (get q.logical.directories f) (get q.logical.texts f) f a names k) ≡ a
+      by a names (RegularFile size filled verifier) = refl
+      by a names k = refl
 
   abbrev pub ended : VolumeContents
   ended = ended_in (owner_at (get p.logical.inodes.inodes f)) f q
@@ -99,7 +101,7 @@ module _ (p q : VolumeContents) (f : ℕ) (handle : List ℕ) (w : Writing) (nod
 
   pub sound-ended : IsSound ended hands made
   sound-ended =
-      subst (λ (c : VolumeContents). IsSound c hands made) (sym ended-is) (sound-owned q f next.inode (with_mode mode next.inode) next.there refl hands made sound)
+      subst (λ (c : VolumeContents). IsSound c hands made) (sym ended-is) (sound-owned q f next.inode (with_mode mode next.inode) next.there (record { kind = refl; names = refl }) hands made sound)
 
   clears-file : clears_set_ids w.caller file ≡ true
   clears-file = ap (clears_owned w.caller) (sym owner-is) ∙ clears
@@ -107,7 +109,7 @@ module _ (p q : VolumeContents) (f : ℕ) (handle : List ℕ) (w : Writing) (nod
   pub volume-ended : volume_of ended
       ≡ with_node (volume_of p) f (File (written_file (file_taken w.caller file) w.offset (bytes_kept w) w.moment))
   volume-ended =
-      ap volume_of ended-is ∙ volume-owned q f next.inode (with_mode mode next.inode) next.there refl
+      ap volume_of ended-is ∙ volume-owned q f next.inode (with_mode mode next.inode) next.there (record { kind = refl; names = refl })
       ∙ ap (λ (x : Node). with_node (volume_of q) f (with_owner (record next.inode.attributes { mode = mode }) x)) next.is
       ∙ (λ j. with_node (left j) f (File (record now { attributes = record (attributes j) { mode = mode } })))
       ∙ (λ j. record (volume_of p) {

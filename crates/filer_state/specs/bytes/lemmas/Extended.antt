@@ -17,11 +17,12 @@ use Rattle.nfs_model.specs.Home.{span_bytes}
 use Rattle.nfs_model.specs.Shown.{touched}
 use Rattle.nfs_model.specs.Serial.Setattr.{with_node}
 use Rattle.nfs_model.specs.Serial.Write.{blocks_met, with_blocks, written_bytes, written_file}
-use Rattle.nfs_model.specs.volume.Inodes.{RegularFile, Inode, InodesValue, inode_set, filled_blocks}
+use Rattle.nfs_model.specs.volume.Inodes.{Inode, InodesValue, inode_set, filled_blocks}
 use Rattle.nfs_model.specs.volume.Stripes.{StripeValue, is_filled, byte_written}
 use Rattle.nfs_model.specs.volume.lemmas.Inodes.{inode-set-there, inode-set-twice, used-set, next-set}
 use Rattle.filer_state.specs.state.Contents.{VolumeContents}
 use Rattle.filer_state.specs.state.Tree.{home_stripe, file_byte, file_bytes, file_filled, file_touch, most_file_blocks, node_of, volume_of}
+use Rattle.filer_state.specs.state.Kinds.{IsFile}
 use Rattle.filer_state.specs.state.WellFormed.{WellFormed, IsLargest}
 use Rattle.filer_state.specs.state.Partition.{times_in_stripe}
 use Rattle.filer_state.specs.state.Sound.{IsSound}
@@ -42,7 +43,7 @@ use Rattle.filer_state.specs.bytes.lemmas.WrittenNodes.{file_before}
 
 -- the inode of a file, and the count of all blocks, extended
 extended-is : (v : InodesValue) (f end more : ℕ) (inode : Inode) (size blocks : ℕ) (verifier : Option (List ℕ)) → get v.inodes f ≡ Some inode
-    → inode.kind ≡ RegularFile size blocks verifier
+    → IsFile inode.kind size blocks verifier
     → inodes_extended f end more (get v.inodes f) v ≡ inode_set f (next_inode inode (max size end) (blocks + more) verifier) v
 extended-is v f end more inode size blocks verifier there is_file =
     ap (λ o. inodes_extended f end more o v) there
@@ -79,7 +80,7 @@ met-below q offset n small h = by (n == 0) refl h
 -- ---- all of it
 
 module _ (p : VolumeContents) (m : Extending) (inode : Inode) (size blocks : ℕ) (verifier : Option (List ℕ))
-    (there : get p.logical.inodes.inodes m.fileid ≡ Some inode) (is_file : inode.kind ≡ RegularFile size blocks verifier)
+    (there : get p.logical.inodes.inodes m.fileid ≡ Some inode) (is_file : IsFile inode.kind size blocks verifier)
     (hands : List Hand) (made : ℕ) (sound : IsSound p (Fresh p.number m.numbers ∷ hands) made)
     (as_many : length m.numbers ≡ length (holes p.stripes m.fileid m.offset (length m.written)))
     (some : 0 < length m.written) (few : length m.written ≤ span_bytes) (fits : end_of m ≤ p.logical.largest) where
@@ -248,13 +249,14 @@ module _ (p : VolumeContents) (m : Extending) (inode : Inode) (size blocks : ℕ
 
   node-3 : get (volume_of p_3).nodes f ≡ Some node
   node-3 =
-      node-at p_3 f ∙ ap (option_map (node_of stripes_3 p.logical.directories f)) there-2
+      node-at p_3 f ∙ ap (option_map (node_of stripes_3 p.logical.directories p.logical.texts f)) there-2
       ∙ (λ j. Some (File (record {
         attributes = inode.attributes;
         bytes = bytes-3 j;
         filled = filled-3 j;
         touch = touch-3 j;
         verifier = verifier;
+        links = inode.names;
       })))
 
   -- the volume after it

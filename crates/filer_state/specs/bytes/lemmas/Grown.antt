@@ -7,12 +7,13 @@ use Rattle.std.specs.Option.{option_map}
 use Rattle.std.specs.FinMap.{get, len}
 use Rattle.std.specs.FinSet as sets
 use Rattle.nfs_model.specs.Server.{block_size}
-use Rattle.nfs_model.specs.volume.Inodes.{RegularFile, Inode}
+use Rattle.nfs_model.specs.volume.Inodes.{Inode}
 use Rattle.nfs_model.specs.volume.Stripes.{Card, OfFile, OfDirectory, Block, StripeValue, byte_of, touch_of, stripe_of}
 use Rattle.nfs_model.specs.volume.lemmas.Numbered.{get-changed_at, itself}
 use Rattle.filer_state.specs.state.Contents.{VolumeContents}
 use Rattle.filer_state.specs.state.Tree.{stripe_at, home_stripe, file_byte, file_filled, file_touch}
 use Rattle.filer_state.specs.state.Names.{size_in, size_of}
+use Rattle.filer_state.specs.state.Kinds.{IsFile}
 use Rattle.filer_state.specs.state.WellFormed.{BlockFits, WellFormed, size_shown, owner_shown}
 use Rattle.filer_state.specs.laws.lemmas.SameBlocks.{stripe-mapped, total-mapped, filled-stays, homes-stay}
 use Rattle.filer_state.specs.bytes.Extending.{card_grown, stripe_grown}
@@ -60,7 +61,7 @@ module _ (f end : ℕ) (s : StripeValue) where
 -- ---- the volume
 
 module _ (p : VolumeContents) (f end : ℕ) (inode : Inode) (size blocks : ℕ) (verifier : Option (List ℕ))
-    (there : get p.logical.inodes.inodes f ≡ Some inode) (is_file : inode.kind ≡ RegularFile size blocks verifier) (well : WellFormed p) where
+    (there : get p.logical.inodes.inodes f ≡ Some inode) (is_file : IsFile inode.kind size blocks verifier) (well : WellFormed p) where
   abbrev pub grown_stripes : List StripeValue
   grown_stripes = map (stripe_grown f end) p.stripes
 

@@ -13,11 +13,12 @@ use Rattle.std.specs.FinSet.{contains, from_list, insert, contains-insert, conta
 use Rattle.nfs_model.specs.Parts.{one_if}
 use Rattle.nfs_model.specs.Server.{block_size}
 use Rattle.depot_rule.specs.Sums.{total}
-use Rattle.nfs_model.specs.volume.Inodes.{RegularFile, Inode}
+use Rattle.nfs_model.specs.volume.Inodes.{Inode}
 use Rattle.nfs_model.specs.volume.Stripes.{Block, StripeValue, stripe_of, byte_of, byte_at, zero_block, block_inserted, is_filled, touch_of}
 use Rattle.filer_state.specs.state.Contents.{VolumeContents}
 use Rattle.filer_state.specs.state.Parcels.{no_stripe}
 use Rattle.filer_state.specs.state.Tree.{stripe_at, home_stripe, file_byte, file_filled, file_touch, most_file_blocks}
+use Rattle.filer_state.specs.state.Kinds.{IsFile}
 use Rattle.filer_state.specs.state.WellFormed.{BlockFits, WellFormed}
 use Rattle.filer_state.specs.state.Partition.{times_in_stripe}
 use Rattle.filer_state.specs.bytes.Extending.{home_changed}
@@ -39,7 +40,7 @@ is-none None e = refl
 is-none (Some x) e = absurd cc
 
 module _ (p : VolumeContents) (f b n : ℕ) (inode : Inode) (size blocks : ℕ) (verifier : Option (List ℕ))
-    (there : get p.logical.inodes.inodes f ≡ Some inode) (is_file : inode.kind ≡ RegularFile size blocks verifier) (well : WellFormed p)
+    (there : get p.logical.inodes.inodes f ≡ Some inode) (is_file : IsFile inode.kind size blocks verifier) (well : WellFormed p)
     (starts : block_size * b < size) (below : b < most_file_blocks) (hole : is_filled (home_stripe p.stripes f b) f b ≡ false) where
   abbrev i : ℕ
   i = stripe_of (length p.stripes) f b

@@ -13,6 +13,7 @@ use Rattle.nfs_model.specs.volume.lemmas.Numbered.{itself}
 use Rattle.filer_state.specs.state.Contents.{VolumeContents}
 use Rattle.filer_state.specs.state.Tree.{home_stripe, file_byte, file_touch, most_file_blocks}
 use Rattle.filer_state.specs.state.Names.{size_in, size_of}
+use Rattle.filer_state.specs.state.Kinds.{IsFile}
 use Rattle.filer_state.specs.state.WellFormed.{WellFormed, IsLargest}
 use Rattle.filer_state.specs.state.Partition.{times_in_hand}
 use Rattle.filer_state.specs.state.Sound.{IsSound}
@@ -40,7 +41,7 @@ refiled-same p f inode well there =
     λ j. record p { logical = record p.logical { inodes = inode-set-same p.logical.inodes f inode well.logical.inodes there j } }
 
 -- the same inode
-inode-is : (inode : Inode) (size blocks : ℕ) (verifier : Option (List ℕ)) (other : ℕ) → inode.kind ≡ RegularFile size blocks verifier
+inode-is : (inode : Inode) (size blocks : ℕ) (verifier : Option (List ℕ)) (other : ℕ) → IsFile inode.kind size blocks verifier
     → blocks ≡ other → next_inode inode size other verifier ≡ inode
 inode-is inode size blocks verifier other is same =
     λ j. record inode { kind = (sym (ap (λ (k : ℕ). RegularFile size k verifier) same) ∙ sym is) j }
@@ -61,7 +62,7 @@ small-block largest size b is most less = let whole = is.is in let few = is.most
 
 -- it is no longer than the largest
 pub size-small : (p : VolumeContents) (f : ℕ) (inode : Inode) (size blocks : ℕ) (verifier : Option (List ℕ)) → WellFormed p
-    → get p.logical.inodes.inodes f ≡ Some inode → inode.kind ≡ RegularFile size blocks verifier → size ≤ p.logical.largest
+    → get p.logical.inodes.inodes f ≡ Some inode → IsFile inode.kind size blocks verifier → size ≤ p.logical.largest
 size-small p f inode size blocks verifier well there is_file =
     subst (λ o. IfSome o (λ n. n ≤ p.logical.largest))
     (ap size_of there ∙ ap size_in is_file) (well.logical.sizes f)
@@ -73,7 +74,7 @@ module _ (f : ℕ) (size : ℕ) (verifier : Option (List ℕ)) (hands : List Han
 
   -- one hole, and then the others
   module _ (p : VolumeContents) (inode : Inode) (many : ℕ) (there : get p.logical.inodes.inodes f ≡ Some inode)
-      (is_file : inode.kind ≡ RegularFile size many verifier) (first b n : ℕ) (is_hole : IsHole f size p.stripes first b)
+      (is_file : IsFile inode.kind size many verifier) (first b n : ℕ) (is_hole : IsHole f size p.stripes first b)
       (numbers : List ℕ) (sound : IsSound p (Fresh p.number (n ∷ numbers) ∷ hands) made) where
     abbrev one : VolumeContents
     one = refiled f (next_inode inode size (many + 1) verifier) (home_changed f b (block_inserted f b n) p.stripes) p
@@ -135,7 +136,7 @@ module _ (f : ℕ) (size : ℕ) (verifier : Option (List ℕ)) (hands : List Han
         swapped a false false z g h = refl
 
   pub filled-up : (blocks numbers : List ℕ) → length numbers ≡ length blocks → (p : VolumeContents) (inode : Inode) (many first : ℕ)
-      → get p.logical.inodes.inodes f ≡ Some inode → inode.kind ≡ RegularFile size many verifier → AreHoles f size p.stripes first blocks
+      → get p.logical.inodes.inodes f ≡ Some inode → IsFile inode.kind size many verifier → AreHoles f size p.stripes first blocks
       → IsSound p (Fresh p.number numbers ∷ hands) made → FilledUp f blocks p hands made (after_all blocks numbers inode many p)
   filled-up [] [] as_many p inode many first there is_file are sound =
       let same : after_all [] [] inode many p ≡ p =

@@ -96,7 +96,7 @@ well-restocked p stock dead well = record {
   largest = well.largest;
   most_inodes = well.most_inodes;
   size = well.size;
-  logical = record { inodes = well.logical.inodes; few = well.logical.few; sizes = well.logical.sizes; named = well.logical.named };
+  logical = record { inodes = well.logical.inodes; few = well.logical.few; sizes = well.logical.sizes; named = well.logical.named; texts = well.logical.texts };
   as_many = well.as_many;
   stripes = λ i on. let fits = well.stripes i on in record {
     verifier = fits.verifier;

@@ -14,7 +14,8 @@ use Rattle.nfs_model.specs.volume.Stripes.{Block, StripeValue, stripe_of, byte_o
 use Rattle.nfs_model.specs.volume.lemmas.Inodes.{inode-set-there, inode-set-other, next-set, used-set, len-set, set-is}
 use Rattle.filer_state.specs.state.Contents.{VolumeContents}
 use Rattle.filer_state.specs.state.Tree.{stripe_at, home_stripe, file_byte, file_filled, file_touch, later, most_file_blocks}
-use Rattle.filer_state.specs.state.Names.{size_in, size_of, parent_directory, subdirectories_of}
+use Rattle.filer_state.specs.state.Names.{size_in, size_of, parent_directory, subdirectories_of, names_of, text_length_in, text_length_of}
+use Rattle.filer_state.specs.state.Kinds.{IsFile}
 use Rattle.filer_state.specs.state.WellFormed.{StripeFits, BlockFits, WellFormed, size_shown, owner_shown, owner_by, owner_in}
 use Rattle.filer_state.specs.state.Partition.{times_in_stripe, times_in_hand}
 use Rattle.filer_state.specs.state.Sound.{IsSound}
@@ -75,7 +76,7 @@ refiled f inode stripes p =
     record p { logical = record p.logical { inodes = inode_set f inode p.logical.inodes }; stripes = stripes }
 
 module _ (p : VolumeContents) (f : ℕ) (inode : Inode) (old_size blocks : ℕ) (verifier : Option (List ℕ)) (size more : ℕ) (stripes : List StripeValue)
-    (there : get p.logical.inodes.inodes f ≡ Some inode) (is_file : inode.kind ≡ RegularFile old_size blocks verifier)
+    (there : get p.logical.inodes.inodes f ≡ Some inode) (is_file : IsFile inode.kind old_size blocks verifier)
     (well : WellFormed p) (small : size ≤ p.logical.largest) (new : Refiles p f size more stripes) where
   abbrev old : InodesValue
   old = p.logical.inodes
@@ -95,6 +96,16 @@ module _ (p : VolumeContents) (f : ℕ) (inode : Inode) (old_size blocks : ℕ) 
   by-fileid : (P : ℕ → Type 0) → P f → ((q : ℕ) → (q == f) ≡ false → P q) → (q : ℕ) → P q
   by-fileid = others.by-one f
 
+  counts : (q : ℕ) → names_of (inode_of after.logical.inodes q) ≡ names_of (inode_of old q)
+  counts = by-fileid (λ q. names_of (inode_of after.logical.inodes q) ≡ names_of (inode_of old q))
+      (ap names_of at-file ∙ sym (ap names_of there))
+      (λ q ne. ap names_of (at-other q ne))
+
+  lengths : (q : ℕ) → text_length_of (inode_of after.logical.inodes q) ≡ text_length_of (inode_of old q)
+  lengths = by-fileid (λ q. text_length_of (inode_of after.logical.inodes q) ≡ text_length_of (inode_of old q))
+      (ap text_length_of at-file ∙ sym (ap text_length_of there ∙ ap text_length_in is_file))
+      (λ q ne. ap text_length_of (at-other q ne))
+
   places : SamePlaces after.logical.inodes.inodes old.inodes
   places = record {
     parents = by-fileid (λ q. parent_directory (inode_of after.logical.inodes q) ≡ parent_directory (inode_of old q))
@@ -105,9 +116,6 @@ module _ (p : VolumeContents) (f : ℕ) (inode : Inode) (old_size blocks : ℕ) 
         (ap subdirectories_of at-file
         ∙ sym (ap subdirectories_of there ∙ ap (λ k. subdirectories_of (Some (record inode { kind = k }))) is_file))
         (λ q ne. ap subdirectories_of (at-other q ne));
-    there = by-fileid (λ q. is_some (inode_of after.logical.inodes q) ≡ is_some (inode_of old q))
-        (ap (λ o. is_some o) at-file ∙ sym (ap (λ o. is_some o) there))
-        (λ q ne. ap (λ o. is_some o) (at-other q ne));
   }
 
   -- ---- a stripe fits
@@ -172,7 +180,8 @@ module _ (p : VolumeContents) (f : ℕ) (inode : Inode) (old_size blocks : ℕ) 
       sizes = by-fileid (λ q. IfSome (size_of (inode_of after.logical.inodes q)) (λ n. n ≤ p.logical.largest))
           (subst (λ o. IfSome (size_of o) (λ n. n ≤ p.logical.largest)) (sym at-file) small)
           (λ q ne. subst (λ o. IfSome (size_of o) (λ n. n ≤ p.logical.largest)) (sym (at-other q ne)) (well.logical.sizes q));
-      named = named-same after.logical.inodes.inodes old.inodes places p.logical.directories well.logical.named;
+      named = named-same after.logical.inodes.inodes old.inodes places counts p.logical.directories well.logical.named;
+      texts = λ q. well.logical.texts q ∙ sym (lengths q);
     };
     as_many = new.as_many ∙ well.as_many;
     stripes = λ i less.

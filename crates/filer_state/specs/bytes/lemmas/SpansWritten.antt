@@ -13,11 +13,12 @@ use Rattle.nfs_model.specs.Home.{span_bytes}
 use Rattle.nfs_model.specs.Serial.Write.{blocks_met}
 use Rattle.nfs_model.specs.Shown.{touched}
 use Rattle.nfs_model.specs.Serial.Setattr.{with_node}
-use Rattle.nfs_model.specs.volume.Inodes.{RegularFile, Inode}
+use Rattle.nfs_model.specs.volume.Inodes.{Inode}
 use Rattle.nfs_model.specs.volume.Stripes.{Card, OfFile, OfDirectory, StripeValue, stripe_of, is_filled, overwritten, byte_written}
 use Rattle.filer_state.specs.state.Contents.{VolumeContents}
 use Rattle.filer_state.specs.state.Tree.{stripe_at, home_stripe, file_byte, file_filled, file_touch, most_file_blocks, volume_of}
 use Rattle.filer_state.specs.state.Names.{size_in, size_of}
+use Rattle.filer_state.specs.state.Kinds.{IsFile}
 use Rattle.filer_state.specs.state.WellFormed.{size_shown}
 use Rattle.filer_state.specs.state.Sound.{IsSound}
 use Rattle.filer_state.specs.state.Calls.{LieIn}
@@ -51,7 +52,7 @@ pub record Overwrites (f offset : ℕ) (written : List ℕ) (moment : Moment) (p
   pub seen : SeenAlike f (restriped stripes p) p
 
 module _ (p : VolumeContents) (f : ℕ) (inode : Inode) (size blocks : ℕ) (verifier : Option (List ℕ))
-    (there : get p.logical.inodes.inodes f ≡ Some inode) (is_file : inode.kind ≡ RegularFile size blocks verifier)
+    (there : get p.logical.inodes.inodes f ≡ Some inode) (is_file : IsFile inode.kind size blocks verifier)
     (moment : Moment) (hands : List Hand) (small : size ≤ block_size * most_file_blocks) where
   sized : size_of (get p.logical.inodes.inodes f) ≡ Some size
   sized = ap size_of there ∙ ap size_in is_file

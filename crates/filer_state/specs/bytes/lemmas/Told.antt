@@ -6,10 +6,10 @@ use Rattle.std.specs.List.{range_with_len}
 use Rattle.std.specs.FinMap.{get}
 use Rattle.std.proofs.lemmas.List.FromFn.{length-map-range_with_len}
 use Rattle.nfs_model.specs.Types.{Answer, ReadDone}
-use Rattle.nfs_model.specs.Server.{FileNode, Node, File, Directory, VolumeState, most_bytes}
+use Rattle.nfs_model.specs.Server.{FileNode, Node, File, VolumeState, most_bytes}
 use Rattle.nfs_model.specs.Locate.{Effect, Tells, on_file}
 use Rattle.nfs_model.specs.Serial.Read.{bytes_at, read_of, read}
-use Rattle.nfs_model.specs.volume.Inodes.{InodeKind, RegularFile, DirectoryKind, Inode}
+use Rattle.nfs_model.specs.volume.Inodes.{InodeKind, RegularFile, Inode}
 use Rattle.nfs_model.specs.volume.Stripes.{Card}
 use Rattle.filer_state.specs.state.Contents.{VolumeContents}
 use Rattle.filer_state.specs.state.Names.{size_in}
@@ -57,13 +57,13 @@ module _ (p : VolumeContents) (fileid offset count : ℕ) (bytes : ℕ → List 
 
   kinds : (inode : Inode) (kind : InodeKind)
       → on_size (size_in kind) (read_told bytes offset (min count most_bytes))
-      ≡ answer_of 1 (on_file (Some (node_by p.stripes (get p.logical.directories fileid) fileid inode.attributes kind)) run)
+      ≡ answer_of 1 (on_file (Some (node_by p.stripes (get p.logical.directories fileid) (get p.logical.texts fileid) fileid inode.attributes inode.names kind)) run)
   kinds inode (RegularFile size filled verifier) = file-told (file_byte p.stripes fileid) bytes offset (min count most_bytes) same size
-  kinds inode (DirectoryKind parent subs) = refl
+  kinds inode kind = refl
 
   by_inode : (o : Option Inode)
       → on_inode o (read_told bytes offset (min count most_bytes))
-      ≡ answer_of 1 (on_file (option_map (node_of p.stripes p.logical.directories fileid) o) run)
+      ≡ answer_of 1 (on_file (option_map (node_of p.stripes p.logical.directories p.logical.texts fileid) o) run)
   by_inode None = refl
   by_inode (Some inode) = kinds inode inode.kind
 
@@ -96,4 +96,4 @@ read-stays volume fileid offset count = by (get volume.nodes fileid)
     by : (o : Option Node) → volume ≡ volume_left volume (on_file o (λ f. reads offset (min count most_bytes) f.bytes))
     by None = refl
     by (Some (File f)) = told f.bytes (nat_le (length f.bytes) offset)
-    by (Some (Directory d)) = refl
+    by (Some node) = refl

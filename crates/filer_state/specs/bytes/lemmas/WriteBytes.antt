@@ -15,11 +15,12 @@ use Rattle.nfs_model.specs.Serial.Setattr.{with_node}
 use Rattle.nfs_model.specs.Serial.Write.{Writing, bytes_kept, blocks_met, need, space_fault, write_some, written_file}
 use Rattle.nfs_model.specs.Work.{Outcome, Replied, Moved, move_if, ready_bytes}
 use Rattle.depot_rule.specs.Sums.{total}
-use Rattle.nfs_model.specs.volume.Inodes.{RegularFile, Inode}
+use Rattle.nfs_model.specs.volume.Inodes.{Inode}
 use Rattle.nfs_model.specs.volume.Stripes.{OfFile, StripeValue, reaches, is_filled, stays_within, overwritten}
 use Rattle.filer_state.specs.state.Contents.{VolumeContents}
 use Rattle.filer_state.specs.state.Tree.{stripe_at, most_file_blocks, volume_of}
 use Rattle.filer_state.specs.state.Names.{size_in, size_of}
+use Rattle.filer_state.specs.state.Kinds.{IsFile}
 use Rattle.filer_state.specs.state.WellFormed.{StripeFits}
 use Rattle.filer_state.specs.state.Partition.{parts_of, times_in_hand}
 use Rattle.filer_state.specs.state.Sound.{IsSound}
@@ -79,7 +80,7 @@ module _ (p : VolumeContents) (i f : ℕ) (handle : List ℕ) (w : Writing) (han
   -- ---- a file
 
   module _ (inode : Inode) (there : get p.logical.inodes.inodes f ≡ Some inode) (size blocks : ℕ) (verifier : Option (List ℕ))
-      (is_file : inode.kind ≡ RegularFile size blocks verifier) (touch : Option Moment) (owner : Ownership)
+      (is_file : IsFile inode.kind size blocks verifier) (touch : Option Moment) (owner : Ownership)
       (card : get s.cards f ≡ Some (OfFile size touch owner)) where
     abbrev file : FileNode
     file = file_before p f inode size verifier

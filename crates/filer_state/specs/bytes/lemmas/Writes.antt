@@ -14,17 +14,19 @@ use Rattle.nfs_model.specs.Locate.{Effect, Fails, Tells, on_file}
 use Rattle.nfs_model.specs.Serial.Write.{Writing, bytes_kept, write_some}
 use Rattle.nfs_model.specs.Work.{move_if, ready, ready_bytes}
 use Rattle.depot_rule.specs.Sums.{total}
-use Rattle.nfs_model.specs.volume.Inodes.{InodeKind, RegularFile, DirectoryKind, Inode}
+use Rattle.nfs_model.specs.volume.Inodes.{InodeKind, RegularFile, Inode}
 use Rattle.nfs_model.specs.volume.Stripes.{Card, OfFile, OfDirectory, StripeValue}
 use Rattle.filer_state.specs.state.Contents.{VolumeContents}
 use Rattle.filer_state.specs.state.Tree.{stripe_at, node_by, node_of, volume_of}
 use Rattle.filer_state.specs.state.Names.{size_in}
+use Rattle.filer_state.specs.state.Kinds.{IsFile}
 use Rattle.filer_state.specs.state.WellFormed.{StripeFits, size_shown}
 use Rattle.filer_state.specs.state.Partition.{parts_of, times_in_hand}
 use Rattle.filer_state.specs.state.Sound.{IsSound}
 use Rattle.filer_state.specs.state.Lenses.{stripe_lens}
 use Rattle.filer_state.specs.state.Calls.{VolumeCall, unasked, WorksOn, LieIn, located_on, move_on, answer_of, volume_left}
 use Rattle.filer_state.specs.state.Running.{RunsOn}
+use Rattle.filer_state.specs.laws.lemmas.InodeKinds.{file-is}
 use Rattle.filer_state.specs.attributes.lemmas.Getting.{node-at}
 use Rattle.filer_state.specs.bytes.Writing.{StripeOutcome, tells, fails, some_written, file_written, card_written, stripe_write}
 use Rattle.filer_state.specs.bytes.WritingLaws.{plain, write_call}
@@ -71,15 +73,15 @@ module _ (p : VolumeContents) (i f : ℕ) (handle : List ℕ) (w : Writing) (han
   -- ---- a file
 
   module _ (inode : Inode) (there : get p.logical.inodes.inodes f ≡ Some inode) (size blocks : ℕ) (verifier : Option (List ℕ))
-      (is_file : inode.kind ≡ RegularFile size blocks verifier) (touch : Option Moment) (owner : Ownership)
+      (is_file : IsFile inode.kind size blocks verifier) (touch : Option Moment) (owner : Ownership)
       (card : get s.cards f ≡ Some (OfFile size touch owner)) where
     abbrev file : FileNode
     file = file_before p f inode size verifier
 
     node-is : get seen.nodes f ≡ Some (File file)
     node-is =
-        node-at p f ∙ ap (option_map (node_of p.stripes p.logical.directories f)) there
-        ∙ ap (λ kind. Some (node_by p.stripes (get p.logical.directories f) f inode.attributes kind)) is_file
+        node-at p f ∙ ap (option_map (node_of p.stripes p.logical.directories p.logical.texts f)) there
+        ∙ ap (λ kind. Some (node_by p.stripes (get p.logical.directories f) (get p.logical.texts f) f inode.attributes inode.names kind)) is_file
 
     -- ---- by its count
 
@@ -123,20 +125,18 @@ module _ (p : VolumeContents) (i f : ℕ) (handle : List ℕ) (w : Writing) (han
   by-card = by (get s.cards f) refl (get p.logical.inodes.inodes f) refl (fits.cards f)
     where
       none : get p.logical.inodes.inodes f ≡ None → get seen.nodes f ≡ None
-      none there = node-at p f ∙ ap (option_map (node_of p.stripes p.logical.directories f)) there
+      none there = node-at p f ∙ ap (option_map (node_of p.stripes p.logical.directories p.logical.texts f)) there
 
       of-kind : (c : Card) → get s.cards f ≡ Some c → (inode : Inode) → get p.logical.inodes.inodes f ≡ Some inode
           → (kind : InodeKind) → inode.kind ≡ kind → size_shown c ≡ size_in kind → Right (card_written p.number f w (Some c) s)
-      of-kind (OfFile size touch owner) card inode there (RegularFile other blocks verifier) is same =
-          let sizes : other ≡ size = cc in
-          by-count inode there size blocks verifier (is ∙ ap (λ (k : ℕ). RegularFile k blocks verifier) sizes) touch owner card
-      of-kind (OfFile size touch owner) card inode there (DirectoryKind parent subs) is same = absurd cc
+      of-kind (OfFile size touch owner) card inode there kind is same =
+          let file = file-is kind size (sym same) in by-count inode there size file.0 file.1 (is ∙ file.2) touch owner card
       of-kind OfDirectory card inode there (RegularFile other blocks verifier) is same = absurd cc
-      of-kind OfDirectory card inode there (DirectoryKind parent subs) is same =
-          no-file (option_map (node_of p.stripes p.logical.directories f) (Some (record inode { kind = DirectoryKind parent subs })))
+      of-kind OfDirectory card inode there kind is same =
+          no-file (option_map (node_of p.stripes p.logical.directories p.logical.texts f) (Some (record inode { kind = kind })))
           (Fails Invalid) (Failed Invalid 2)
-          (node-at p f ∙ ap (option_map (node_of p.stripes p.logical.directories f)) there
-          ∙ ap (λ kind. Some (node_by p.stripes (get p.logical.directories f) f inode.attributes kind)) is)
+          (node-at p f ∙ ap (option_map (node_of p.stripes p.logical.directories p.logical.texts f)) there
+          ∙ ap (λ k. Some (node_by p.stripes (get p.logical.directories f) (get p.logical.texts f) f inode.attributes inode.names k)) is)
           refl refl refl refl
 
       by : (c : Option Card) → get s.cards f ≡ c → (o : Option Inode) → get p.logical.inodes.inodes f ≡ o

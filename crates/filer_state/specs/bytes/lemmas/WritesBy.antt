@@ -4,7 +4,7 @@ use Rattle.std.specs.Prelude.{if◌then◌else◌, is_some, is_none}
 use Rattle.std.specs.FinMap.{get}
 use Rattle.nfs_model.specs.Types.{Status, Invalid, WriteDone}
 use Rattle.nfs_model.specs.Tree.{Affinity, Logical, Volume, Stripe}
-use Rattle.nfs_model.specs.Server.{FileNode, Node, File, Directory, VolumeState, most_bytes}
+use Rattle.nfs_model.specs.Server.{FileNode, Node, File, VolumeState, most_bytes}
 use Rattle.nfs_model.specs.Locate.{Effect, Fails, Tells, Changes, unless, on_file}
 use Rattle.nfs_model.specs.Parts.{Parts}
 use Rattle.nfs_model.specs.Serial.Rights.{without_set_ids}
@@ -84,9 +84,8 @@ module _ (p : VolumeContents) (f : ℕ) (handle : List ℕ) (w : Writing) (node 
 
   -- the volume that it leaves
   abbrev pub taken : Option Node → VolumeState → VolumeState
-  taken None volume = volume
-  taken (Some (Directory d)) volume = volume
   taken (Some (File g)) volume = with_node seen f (File (written_file (file_taken w.caller g) w.offset (bytes_kept w) w.moment))
+  taken x volume = volume
 
   abbrev pub retake : Option Node → Effect → Effect
   retake x (Fails status) = Fails status
@@ -99,8 +98,6 @@ module _ (p : VolumeContents) (f : ℕ) (handle : List ℕ) (w : Writing) (node 
   answer-same x (Changes answer volume) = refl
 
   effect-by : (x : Option Node) → effect_by x ≡ retake x (effect_plain x)
-  effect-by None = refl
-  effect-by (Some (Directory d)) = refl
   effect-by (Some (File g)) = by (w.count == length w.written) (w.count == 0) (write_fault seen w.offset (length (bytes_kept w)))
       (space_fault seen g w.offset (length (bytes_kept w)))
     where
@@ -117,11 +114,10 @@ module _ (p : VolumeContents) (f : ℕ) (handle : List ℕ) (w : Writing) (node 
       by true false (Some status) s = refl
       by true false None (Some status) = refl
       by true false None None = refl
+  effect-by x = refl
 
   -- nothing else, where the mode stays
   effect-same : (x : Option Node) → clears_owned w.caller (owner_seen x) ≡ false → effect_by x ≡ effect_plain x
-  effect-same None stays = refl
-  effect-same (Some (Directory d)) stays = refl
   effect-same (Some (File g)) stays =
       ap (λ (h : FileNode). if not (w.count == length w.written) then Fails Invalid
       else if w.count == 0 then Tells (WriteDone 0 seen.verifier)
@@ -132,13 +128,12 @@ module _ (p : VolumeContents) (f : ℕ) (handle : List ℕ) (w : Writing) (node 
     where
       kept : file_taken w.caller g ≡ g
       kept = ap (λ (b : Bool). if b then record g { attributes = record g.attributes { mode = without_set_ids g.attributes.mode } } else g) stays
+  effect-same x stays = refl
 
   -- ---- what there is to know of it
 
   ready-by : (x : Option Node) → write_refused w.caller (owner_seen x) ≡ None
       → ready_by x ≡ reclear (clears_owned w.caller (owner_seen x)) (ready_on p f handle w node x)
-  ready-by None permits = refl
-  ready-by (Some (Directory d)) permits = refl
   ready-by (Some (File g)) permits =
       ap (λ (o : Option Status). if is_some o then None
       else if not (w.count == length w.written) then None
@@ -160,10 +155,9 @@ module _ (p : VolumeContents) (f : ℕ) (handle : List ℕ) (w : Writing) (node 
       by true true u = refl
       by true false true = refl
       by true false false = refl
+  ready-by x permits = refl
 
   ready-same : (x : Option Node) → reclear false (ready_on p f handle w node x) ≡ ready_on p f handle w node x
-  ready-same None = refl
-  ready-same (Some (Directory d)) = refl
   ready-same (Some (File g)) = by (w.count == length w.written) (w.count == 0) (is_some (write_fault seen w.offset (min w.count most_bytes)))
     where
       told : Ready
@@ -180,15 +174,15 @@ module _ (p : VolumeContents) (f : ℕ) (handle : List ℕ) (w : Writing) (node 
       by true true u = refl
       by true false true = refl
       by true false false = refl
+  ready-same x = refl
 
   ready-none : (x : Option Node) (status : Status) → write_refused w.caller (owner_seen x) ≡ Some status → ready_by x ≡ None
-  ready-none None status refuses = refl
-  ready-none (Some (Directory d)) status refuses = refl
   ready-none (Some (File g)) status refuses =
       ap (λ (o : Option Status). if is_some o then None
       else if not (w.count == length w.written) then None
       else if w.count == 0 then None
       else ready_bytes seen w.caller g w.offset (min w.count most_bytes)) refuses
+  ready-none x status refuses = refl
 
   -- ---- by who owns the file
 

@@ -14,12 +14,14 @@ use Rattle.nfs_model.specs.Server.{Node, File, FileNode, block_size}
 use Rattle.nfs_model.specs.Shown.{touched}
 use Rattle.nfs_model.specs.Serial.Setattr.{with_node}
 use Rattle.nfs_model.specs.Serial.Write.{blocks_met, with_blocks, written_bytes, written_file}
-use Rattle.nfs_model.specs.volume.Inodes.{InodeKind, RegularFile, DirectoryKind, Inode}
+use Rattle.nfs_model.specs.volume.Inodes.{Inode}
 use Rattle.nfs_model.specs.volume.Stripes.{OfFile, StripeValue, byte_at, byte_written, is_filled, stripe_of, overwritten}
 use Rattle.nfs_model.specs.volume.lemmas.Maps.{get-map_values}
 use Rattle.nfs_model.specs.volume.lemmas.Numbered.{get-insert_at, same-answers}
 use Rattle.filer_state.specs.state.Contents.{VolumeContents}
-use Rattle.filer_state.specs.state.Tree.{stripe_at, file_byte, file_bytes, file_filled, file_touch, most_file_blocks, node_by, node_of, volume_of}
+use Rattle.filer_state.specs.state.Tree.{stripe_at, file_byte, file_bytes, file_filled, file_touch, most_file_blocks, directory_or_empty, text_or_empty}
+use Rattle.filer_state.specs.state.Tree.{node_with, node_by, node_of, volume_of}
+use Rattle.filer_state.specs.state.Kinds.{IsFile}
 use Rattle.filer_state.specs.state.Lenses.{stripe_lens}
 use Rattle.filer_state.specs.state.Calls.{LieIn}
 use Rattle.filer_state.specs.bytes.lemmas.Spans.{same-stripe}
@@ -37,6 +39,7 @@ file_before p f inode size verifier = record {
   filled = file_filled p.stripes f;
   touch = file_touch p.stripes f;
   verifier = verifier;
+  links = inode.names;
 }
 
 module _ (p : VolumeContents) (i f offset : ℕ) (written : List ℕ) (moment : Moment) (on : i < length p.stripes)
@@ -99,37 +102,28 @@ module _ (p : VolumeContents) (i f offset : ℕ) (written : List ℕ) (moment : 
   -- ---- nodes
 
   abbrev seen_now : ℕ → Inode → Node
-  seen_now = node_of after.stripes p.logical.directories
+  seen_now = node_of after.stripes p.logical.directories p.logical.texts
 
   abbrev seen : ℕ → Inode → Node
-  seen = node_of p.stripes p.logical.directories
+  seen = node_of p.stripes p.logical.directories p.logical.texts
 
   other-node : (q : ℕ) → (q == f) ≡ false → (inode : Inode) → seen_now q inode ≡ seen q inode
-  other-node q ne inode = by inode.kind
-    where
-      by : (kind : InodeKind) → node_by after.stripes (get p.logical.directories q) q inode.attributes kind
-          ≡ node_by p.stripes (get p.logical.directories q) q inode.attributes kind
-      by (RegularFile size blocks verifier) = λ j. File (record {
-        attributes = inode.attributes;
-        bytes = map (λ k. bytes-kept q ne k j) (range_with_len 0 size);
-        filled = filled-kept q j;
-        touch = touch-kept q ne j;
-        verifier = verifier;
-      })
-      by (DirectoryKind parent subdirectories) = refl
+  other-node q ne inode = λ j. node_with (λ size. map (λ k. bytes-kept q ne k j) (range_with_len 0 size)) (filled-kept q j) (touch-kept q ne j)
+      (directory_or_empty (get p.logical.directories q)) (text_or_empty (get p.logical.texts q)) inode.attributes inode.names inode.kind
 
   module _ (inode : Inode) (there : get p.logical.inodes.inodes f ≡ Some inode) (size blocks : ℕ) (verifier : Option (List ℕ))
-      (is_file : inode.kind ≡ RegularFile size blocks verifier) (within : offset + length written ≤ size) where
+      (is_file : IsFile inode.kind size blocks verifier) (within : offset + length written ≤ size) where
     abbrev node : Node
     node = File (written_file (file_before p f inode size verifier) offset written moment)
 
     this-node : seen_now f inode ≡ node
-    this-node = ap (node_by after.stripes (get p.logical.directories f) f inode.attributes) is_file ∙ (λ j. File (record {
+    this-node = ap (node_by after.stripes (get p.logical.directories f) (get p.logical.texts f) f inode.attributes inode.names) is_file ∙ (λ j. File (record {
       attributes = inode.attributes;
       bytes = bytes-now size within j;
       filled = filled-now j;
       touch = touch-now j;
       verifier = verifier;
+      links = inode.names;
     }))
 
     nodes-now : (volume_of after).nodes ≡ insert (volume_of p).nodes f node

@@ -7,13 +7,13 @@ use Rattle.std.specs.Ordering.{nat_cmp}
 use Rattle.std.specs.FinMap.{FinMap, get, insert}
 use Rattle.nfs_model.specs.Types.{Moment, Caller, Listed, SetAttributes, CreateMode, Unchecked, Guarded, Exclusive, Status, MadeDone, Exists}
 use Rattle.nfs_model.specs.Tree.{Affinity}
-use Rattle.nfs_model.specs.Server.{Node, File, Directory, handle_bytes}
+use Rattle.nfs_model.specs.Server.{Node, Directory, handle_bytes}
 use Rattle.nfs_model.specs.Shown.{shown, before_of, subdirectories, is_directory_node}
 use Rattle.nfs_model.specs.Locate.{Effect, Fails, Tells, unless, Naming}
 use Rattle.nfs_model.specs.Serial.Setattr.{set_node, setattr_fault, with_node}
 use Rattle.nfs_model.specs.Serial.Create.{is_verifier, there_told, told_as_it_is, set_there, over_taken, create_over}
 use Rattle.nfs_model.specs.Parts.{Hand, one_if}
-use Rattle.nfs_model.specs.volume.Inodes.{InodeKind, RegularFile, DirectoryKind, Inode}
+use Rattle.nfs_model.specs.volume.Inodes.{InodeKind, RegularFile, Inode}
 use Rattle.nfs_model.specs.volume.lemmas.Numbered.{get-insert_at}
 use Rattle.filer_state.specs.state.Contents.{VolumeContents}
 use Rattle.filer_state.specs.state.Tree.{node_by, node_of, volume_of}
@@ -36,8 +36,8 @@ use Rattle.filer_state.specs.changes.lemmas.Making.{SaysNothing, failure-right}
 
 set-directory : (set : SetAttributes) (moment : Moment) (node : Node)
     → is_directory_node (Some (set_node set moment node)) ≡ is_directory_node (Some node)
-set-directory set moment (File g) = refl
 set-directory set moment (Directory d) = refl
+set-directory set moment node = refl
 
 module _ (nodes : FinMap nat_cmp Node) (f : ℕ) (old new : Node) (there : get nodes f ≡ Some old)
     (same : is_directory_node (Some new) ≡ is_directory_node (Some old)) where
@@ -61,7 +61,7 @@ module _ (nodes : FinMap nat_cmp Node) (f : ℕ) (old new : Node) (there : get n
 module _ (handle : List ℕ) (node : Affinity) (mode : CreateMode) (caller : Caller)
     (p : VolumeContents) (hands hands' : List Hand) (made : ℕ) (sound : IsSound p hands made) (weigh : WeighAlike p.number hands hands')
     (fileid : ℕ) (name : List ℕ) (moment : Moment) (says : SaysNothing (create_call handle node fileid name mode caller moment))
-    (inode : Inode) (parent subs : ℕ) (here : IsDirectoryHere p fileid name moment inode parent subs)
+    (inode : Inode) (parent : ℕ) (here : IsDirectoryHere p fileid name moment inode parent)
     (child : HeldNode) (child_here : IsChildHere p fileid name child) where
   abbrev h : HeldNaming
   h = naming_held p fileid name moment inode
@@ -70,7 +70,7 @@ module _ (handle : List ℕ) (node : Affinity) (mode : CreateMode) (caller : Cal
   n = naming_seen p fileid name moment inode parent
 
   abbrev was : Node
-  was = node_of p.stripes p.logical.directories child.fileid child.inode
+  was = node_of p.stripes p.logical.directories p.logical.texts child.fileid child.inode
 
   abbrev Right : LogicalAnswer → Effect → Type 0
   Right done effect = RightAs (create_call handle node fileid name mode caller moment) p hands' (made + 1) done effect
@@ -79,7 +79,7 @@ module _ (handle : List ℕ) (node : Affinity) (mode : CreateMode) (caller : Cal
   failure status = failure-right p hands hands' made sound weigh (create_call handle node fileid name mode caller moment) says status
 
   own-shown : shown (volume_of p) fileid (Directory n.directory) ≡ shown_inode p.number fileid inode None
-  own-shown = before-shown p fileid name moment sound.well_formed inode parent subs here
+  own-shown = before-shown p fileid name moment sound.well_formed inode parent here
 
   -- a node that is there, as it is
   there-right : Right (there_shown h child) (Tells (there_told n (volume_of p) (record { fileid = child.fileid; node = was })))
@@ -105,7 +105,7 @@ module _ (handle : List ℕ) (node : Affinity) (mode : CreateMode) (caller : Cal
     own-stays =
         (λ j. record (shown (volume_of p) fileid (Directory n.directory)) {
           links = 2 + subdirectories-same (volume_of p).nodes child.fileid was now
-              (node-at p child.fileid ∙ ap (option_map (node_of p.stripes p.logical.directories child.fileid)) child_here.node)
+              (node-at p child.fileid ∙ ap (option_map (node_of p.stripes p.logical.directories p.logical.texts child.fileid)) child_here.node)
               (set-directory set moment was) n.directory.list j;
         })
         ∙ own-shown
@@ -144,7 +144,7 @@ module _ (handle : List ℕ) (node : Affinity) (mode : CreateMode) (caller : Cal
 
   -- the node, were it of this kind
   abbrev child_of : InodeKind → Node
-  child_of kind = node_by p.stripes (get p.logical.directories child.fileid) child.fileid child.inode.attributes kind
+  child_of kind = node_by p.stripes (get p.logical.directories child.fileid) (get p.logical.texts child.fileid) child.fileid child.inode.attributes child.inode.names kind
 
   by-size : (set : SetAttributes) (b : Bool)
       → Right (if b then there_shown h child else held (taken_of caller (over_taken caller set) child.inode))
@@ -155,14 +155,10 @@ module _ (handle : List ℕ) (node : Affinity) (mode : CreateMode) (caller : Cal
   by-size set false = upon-right (taken_of caller (over_taken caller set) child.inode)
 
   by-kind : (asked : CreateMode) (kind : InodeKind) → child.inode.kind ≡ kind → Right (create_existing h asked caller child kind)
-      (create_over n asked caller child.fileid (node_by p.stripes (get p.logical.directories child.fileid) child.fileid child.inode.attributes kind))
-  by-kind (Guarded set) (RegularFile size filled verifier) is = failure Exists
-  by-kind (Guarded set) (DirectoryKind up subdirectories) is = failure Exists
-  by-kind (Unchecked set) (DirectoryKind up subdirectories) is = failure Exists
-  by-kind (Exclusive verifier) (DirectoryKind up subdirectories) is = failure Exists
+      (create_over n asked caller child.fileid (node_by p.stripes (get p.logical.directories child.fileid) (get p.logical.texts child.fileid) child.fileid child.inode.attributes child.inode.names kind))
+  by-kind (Guarded set) kind is = failure Exists
   by-kind (Exclusive verifier) (RegularFile size filled kept) is =
-      let seen : was ≡ node_by p.stripes (get p.logical.directories child.fileid) child.fileid child.inode.attributes (RegularFile size filled kept) =
-      ap (node_by p.stripes (get p.logical.directories child.fileid) child.fileid child.inode.attributes) is in
+      let seen = ap child_of is in
       subst (λ (x : Node). Right (if is_verifier kept verifier then there_shown h child else fails Exists (logical_lens.of p))
       (if is_verifier kept verifier then Tells (there_told n (volume_of p) (record { fileid = child.fileid; node = x })) else Fails Exists)) seen
       (by-verifier (is_verifier kept verifier))
@@ -173,6 +169,7 @@ module _ (handle : List ℕ) (node : Affinity) (mode : CreateMode) (caller : Cal
       else unless (setattr_fault (volume_of p) (taken_by caller (over_taken caller set) child.inode.attributes k) None (child_of k))
       (set_there n child.fileid (set_node (taken_by caller (over_taken caller set) child.inode.attributes k) moment (child_of k))))) is
       (by-size set (caller.checked && is_none set.size))
+  by-kind asked kind is = failure Exists
 
   -- the name is there
   pub there-as : Right (create_existing h mode caller child child.inode.kind) (create_over n mode caller child.fileid was)

@@ -1,7 +1,7 @@
 -- A node without bytes and entries that loses its name, as the serial server sees it: what is shown of its directory, and no block moves.
-use Rattle.std.proofs.Common.{◌≡◌, ℕ, ◌+◌, ◌-◌, ◌*◌, ◌≤◌, ◌==◌, ◌&&◌, Bool, true, false, List, [], ◌∷◌, ◌++◌, map, Option, Some, None}
+use Rattle.std.proofs.Common.{◌≡◌, ℕ, ◌+◌, ◌*◌, ◌≤◌, ◌==◌, ◌&&◌, Bool, true, false, List, [], ◌∷◌, ◌++◌, map, Option, Some, None}
 use Rattle.std.proofs.Common.{refl, sym, ap, ◌∙◌, arith, nat_lt}
-use Rattle.std.specs.Prelude.{if◌then◌else◌}
+use Rattle.std.specs.Prelude.{if◌then◌else◌, nat_le}
 use Rattle.std.proofs.lemmas.Bool.Decides.{nat_tests}
 use Rattle.std.specs.Ordering.{nat_cmp}
 use Rattle.std.specs.Cmp.{nat_cmp_total}
@@ -9,7 +9,7 @@ use Rattle.std.specs.FinMap.{FinMap, get, insert, remove, len, nat_cmp-IsAntisym
 use Rattle.std.specs.FinSet as sets
 use Rattle.std.specs.FinSet.{FinSet, contains, retain, contains-retain, from_list}
 use Rattle.nfs_model.specs.Names.{dropped_name}
-use Rattle.nfs_model.specs.Server.{DirectoryNode, Directory, VolumeState, block_size, used}
+use Rattle.nfs_model.specs.Server.{DirectoryNode, Directory, VolumeState, block_size, used, Node}
 use Rattle.nfs_model.specs.Shown.{shown, before_of}
 use Rattle.nfs_model.specs.Parts.{Hand}
 use Rattle.nfs_model.specs.Moves.{PartsChange}
@@ -17,11 +17,11 @@ use Rattle.nfs_model.specs.Types.{Moment, GoneDone}
 use Rattle.nfs_model.specs.Locate.{Naming}
 use Rattle.nfs_model.specs.Serial.Remove as removes
 use Rattle.nfs_model.specs.Serial.Remove.{without_child, gone}
-use Rattle.nfs_model.specs.volume.Inodes.{DirectoryKind, Inode}
+use Rattle.nfs_model.specs.volume.Inodes.{Inode, InodeKind, RegularFile, DirectoryKind, SpecialFile}
 use Rattle.nfs_model.specs.volume.Stripes.{StripeValue, card_dropped}
 use Rattle.nfs_model.specs.volume.lemmas.Numbered.{get-insert_at, get-remove_at, same-answers, itself}
 use Rattle.filer_state.specs.state.Contents.{VolumeContents}
-use Rattle.filer_state.specs.state.Tree.{file_touch, volume_of}
+use Rattle.filer_state.specs.state.Tree.{file_touch, volume_of, node_by, node_of}
 use Rattle.filer_state.specs.state.Names.{parent_in}
 use Rattle.filer_state.specs.state.Partition.{parts_of, stored, numbers_in, all_numbers}
 use Rattle.filer_state.specs.state.Sound.{IsSound}
@@ -32,14 +32,15 @@ use Rattle.filer_state.specs.laws.lemmas.Counted.{used-is}
 use Rattle.filer_state.specs.laws.lemmas.SameBlocks.{total-mapped}
 use Rattle.filer_state.specs.names.lemmas.DirectoryKinds.{same-shown}
 use Rattle.filer_state.specs.nodes.Making.{directories_in}
-use Rattle.filer_state.specs.nodes.Dropping.{Dropping, without_subdirectories, directory_left}
+use Rattle.filer_state.specs.nodes.Dropping.{Dropping, directory_left}
 use Rattle.filer_state.specs.nodes.Laws.{WeighAlike, LosesName, seen_directory}
-use Rattle.filer_state.specs.nodes.lemmas.Unnamed.{at-directory}
+use Rattle.filer_state.specs.nodes.lemmas.Unnamed.{parent-kept, at-directory}
 use Rattle.filer_state.specs.nodes.lemmas.Dropped.{left_in, sound-left, volume-left}
 use Rattle.filer_state.specs.changes.Named.{HeldNode}
 use Rattle.filer_state.specs.changes.Dropping.{dropping_of, held_gone}
-use Rattle.filer_state.specs.changes.lemmas.Named.{RightAs, naming_held, naming_seen, IsDirectoryHere, before-shown}
+use Rattle.filer_state.specs.changes.lemmas.Named.{RightAs, naming_held, naming_seen, IsDirectoryHere, before-shown, found_seen}
 use Rattle.filer_state.specs.changes.lemmas.Setting.{node-shows}
+use Rattle.nfs_model.specs.Serial.Links.{without_link, node_left}
 
 -- ---- maps and sets
 
@@ -72,8 +73,8 @@ none-before s = sets.same_set nat_cmp_total nat_cmp-IsAntisymmetric (retain s (�
 
 -- ---- a node dropped from a volume
 
-module _ (q : VolumeContents) (m : Dropping) (may : LosesName m q.logical.inodes q.logical.directories) (parent subs : ℕ)
-    (is : m.inode.kind ≡ DirectoryKind parent subs) (hands hands' : List Hand) (made now : ℕ) (later : made ≤ now)
+module _ (q : VolumeContents) (m : Dropping) (may : LosesName m q.logical.inodes q.logical.directories) (parent : ℕ)
+    (says : parent_in m.inode.kind ≡ Some parent) (hands hands' : List Hand) (made now : ℕ) (later : made ≤ now)
     (weigh : WeighAlike q.number hands hands') (sound : IsSound q hands made) where
   abbrev after : VolumeContents
   after = left_in m q
@@ -88,7 +89,7 @@ module _ (q : VolumeContents) (m : Dropping) (may : LosesName m q.logical.inodes
   sound-gone = sound-left q m sound.well_formed may hands hands' made now later weigh sound
 
   pub volume-gone : volume_of after ≡ volume_then
-  volume-gone = volume-left q m sound.well_formed may parent (ap parent_in is)
+  volume-gone = volume-left q m sound.well_formed may parent says
 
   -- the directory after it
   directory-gone : shown volume_then m.directory (Directory directory_then) ≡ shown_inode q.number m.directory (directory_left m) None
@@ -97,8 +98,8 @@ module _ (q : VolumeContents) (m : Dropping) (may : LosesName m q.logical.inodes
       (get-insert_at (remove (volume_of q).nodes m.fileid) m.directory (Directory directory_then) m.directory
       ∙ ap (λ (b : Bool). if b then Some (Directory directory_then) else get (remove (volume_of q).nodes m.fileid) m.directory) (itself m.directory))
       (at-directory q.logical.inodes q.logical.directories m may)
-      ∙ same-shown q.number m.directory (directory_left m) parent (subs - directories_in m.dropped.kind)
-      (ap (without_subdirectories (directories_in m.dropped.kind)) is) (file_touch after.stripes m.directory)
+      ∙ same-shown q.number m.directory (directory_left m) parent
+      (parent-kept (directories_in m.dropped.kind) m.inode.kind ∙ says) (file_touch after.stripes m.directory)
 
   -- no block moves
   numbers-stay : (stripes : List StripeValue) → all_numbers (map (card_dropped m.fileid) stripes) ≡ all_numbers stripes
@@ -116,9 +117,35 @@ module _ (q : VolumeContents) (m : Dropping) (may : LosesName m q.logical.inodes
 
 -- ---- a name gone
 
+-- the last name of a node as the serial server sees it: it goes with it
+pub without-last : (p : VolumeContents) (child : HeldNode) (moment : Moment) → child.inode.names ≤ 1
+    → without_link moment (node_of p.stripes p.logical.directories p.logical.texts child.fileid child.inode) ≡ None
+without-last p child moment last = by child.inode.kind
+  where
+    few : nat_le child.inode.names 1 ≡ true
+    few = grind (arith, nat_tests, last)
+
+    none-where : (b : Bool) (node : Node) → b ≡ true → (if b then None else Some node) ≡ None
+    none-where true node e = refl
+    none-where false node e = absurd cc
+
+    by : (k : InodeKind) → without_link moment (node_by p.stripes (get p.logical.directories child.fileid) (get p.logical.texts child.fileid) child.fileid
+        child.inode.attributes child.inode.names k) ≡ None
+    by (RegularFile size filled verifier) = none-where (nat_le child.inode.names 1) _ few
+    by (DirectoryKind parent subs) = refl
+    by (SpecialFile special size) = none-where (nat_le child.inode.names 1) _ few
+
+-- the volume without it
+pub last-left : (p : VolumeContents) (seen : Naming) (child : HeldNode) → child.inode.names ≤ 1 → seen.volume ≡ volume_of p
+    → without_child seen (found_seen p child)
+    ≡ record (volume_of p) { nodes = insert (remove (volume_of p).nodes child.fileid) seen.fileid (removes.directory_left seen) }
+last-left p seen child last same = λ j. record (same j) {
+  nodes = insert (node_left (same j).nodes child.fileid (without-last p child seen.moment last j)) seen.fileid (removes.directory_left seen);
+}
+
 -- a call by which a node loses its name, in a volume that may have changed but for the directory
-module _ (p : VolumeContents) (fileid : ℕ) (name : List ℕ) (moment : Moment) (inode : Inode) (parent subs : ℕ)
-    (here : IsDirectoryHere p fileid name moment inode parent subs) (child : HeldNode) (set : LogicalSet)
+module _ (p : VolumeContents) (fileid : ℕ) (name : List ℕ) (moment : Moment) (inode : Inode) (parent : ℕ)
+    (here : IsDirectoryHere p fileid name moment inode parent) (child_seen child : HeldNode) (set : LogicalSet)
     (hands hands' : List Hand) (made : ℕ) (sound : IsSound p hands made) (weigh : WeighAlike p.number hands hands') where
   abbrev q : VolumeContents
   q = logical_lens.put set p
@@ -131,16 +158,16 @@ module _ (p : VolumeContents) (fileid : ℕ) (name : List ℕ) (moment : Moment)
 
   pub gone-right : (c : VolumeCall) → LosesName m q.logical.inodes q.logical.directories → IsSound q hands made
       → record (volume_of q) { nodes = insert (remove (volume_of q).nodes child.fileid) fileid (removes.directory_left seen) }
-      ≡ without_child seen child.fileid
+      ≡ without_child seen (found_seen p child_seen)
       → PartsChange c.call c.node (stored p) (stored (left_in m q))
-      → RightAs c p hands' (made + 1) (held_gone (naming_held p fileid name moment inode) child set) (gone seen child.fileid)
+      → RightAs c p hands' (made + 1) (held_gone (naming_held p fileid name moment inode) child set) (gone seen (found_seen p child_seen))
   gone-right c may still left parts =
-      let before = ap before_of (sym (before-shown p fileid name moment sound.well_formed inode parent subs here)) in
+      let before = ap before_of (sym (before-shown p fileid name moment sound.well_formed inode parent here)) in
       let told =
       (λ j. shown (sym left j) fileid (removes.directory_left seen))
-      ∙ directory-gone q m may parent subs here.kind hands hands' made (made + 1) (omega arith) weigh still in (
+      ∙ directory-gone q m may parent here.says hands hands' made (made + 1) (omega arith) weigh still in (
         λ j. GoneDone (record { before = before j; after = sym told j }),
-        volume-gone q m may parent subs here.kind hands hands' made (made + 1) (omega arith) weigh still ∙ left,
+        volume-gone q m may parent here.says hands hands' made (made + 1) (omega arith) weigh still ∙ left,
         parts,
-        sound-gone q m may parent subs here.kind hands hands' made (made + 1) (omega arith) weigh still,
+        sound-gone q m may parent here.says hands hands' made (made + 1) (omega arith) weigh still,
       )

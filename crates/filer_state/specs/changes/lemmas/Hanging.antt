@@ -16,7 +16,7 @@ use Rattle.nfs_model.specs.volume.Stripes.{StripeValue, touch_taken}
 use Rattle.nfs_model.specs.volume.lemmas.Inodes.{next-set}
 use Rattle.nfs_model.specs.volume.lemmas.Numbered.{get-insert_at}
 use Rattle.filer_state.specs.state.Contents.{VolumeContents}
-use Rattle.filer_state.specs.state.Tree.{file_touch, directory_or_empty, node_of, volume_of}
+use Rattle.filer_state.specs.state.Tree.{file_touch, directory_or_empty, node_of, volume_of, file_bytes, file_filled, text_or_empty}
 use Rattle.filer_state.specs.state.Names.{parent_in, parent_directory, directory_above}
 use Rattle.filer_state.specs.state.Partition.{parts_of, numbers_in, all_numbers}
 use Rattle.filer_state.specs.state.Sound.{IsSound}
@@ -35,7 +35,7 @@ use Rattle.filer_state.specs.nodes.lemmas.Unnamed.{parent-kept}
 use Rattle.filer_state.specs.nodes.lemmas.Untied.{untied-directory, untied-other, untied-entries, untied-others}
 use Rattle.filer_state.specs.nodes.lemmas.Hung.{apart, apart-turned}
 use Rattle.filer_state.specs.nodes.lemmas.Moved.{sound-moved}
-use Rattle.filer_state.specs.nodes.lemmas.MovedNodes.{nodes-taken, nodes-hung}
+use Rattle.filer_state.specs.nodes.lemmas.MovedNodes.{nodes-taken, nodes-hung, moved-kind}
 use Rattle.filer_state.specs.changes.Named.{HeldNaming, HeldNode}
 use Rattle.filer_state.specs.changes.Renaming.{moving_of, child_taken, child_hung}
 use Rattle.filer_state.specs.changes.lemmas.Named.{IsChildHere}
@@ -153,7 +153,7 @@ module _ (q : VolumeContents) (from to : HeldNaming) (child : HeldNode) (from_pa
 
   -- all stays sound
   pub sound-hung : (hands' : List Hand) → WeighAlike q.number hands hands' → IsSound q_hung hands' (made + 1)
-  sound-hung hands' weigh = sound-moved q m n sound.well_formed stands may-hang refl hands hands' made weigh sound
+  sound-hung hands' weigh = sound-moved q m n sound.well_formed stands may-hang refl refl hands hands' made weigh sound
 
   -- both directories have entries
   pub to-some : is_some (get hung.own.directories to.fileid) ≡ true
@@ -196,17 +196,20 @@ module _ (q : VolumeContents) (from to : HeldNaming) (child : HeldNode) (from_pa
         changed-there (in_directory (λ d. with_name d to.name c to.moment)) to.fileid (nodes_of taken)
         (Directory (seen_directory n.inode n.entries to_parent)) (directory-seen q_taken to.fileid n.inode to_parent n-there n-says)
 
-    node-there : get (insert (nodes_of taken) to.fileid entered) c ≡ Some (node_of q.stripes taken.own.directories c child.inode)
+    node-there : get (insert (nodes_of taken) to.fileid entered) c ≡ Some (node_of q.stripes taken.own.directories taken.own.texts c child.inode)
     node-there =
         get-insert_at (nodes_of taken) to.fileid entered c
         ∙ ap (λ (b : Bool). if b then Some entered else get (nodes_of taken) c) turned-here
-        ∙ node-at q_taken c ∙ ap (option_map (node_of q.stripes taken.own.directories c)) n-node
+        ∙ node-at q_taken c ∙ ap (option_map (node_of q.stripes taken.own.directories taken.own.texts c)) n-node
 
     nodes-renamed : (volume_of q_hung).nodes ≡ with_moved to_seen c (with_entry to_seen c (without_entry from_seen (volume_of q).nodes))
     nodes-renamed =
         nodes-hung taken n n-there n-node apart-here turned-here to_parent n-says
+        (moved_node to.fileid to.moment (node_of q.stripes taken.own.directories taken.own.texts c child.inode))
+        (moved-kind (file_bytes q.stripes c) (file_filled q.stripes c) (file_touch q.stripes c) (directory_or_empty (get taken.own.directories c))
+        (text_or_empty (get taken.own.texts c)) child.inode.attributes child.inode.names to.fileid to.moment child.inode.kind)
         ∙ sym (changed-there (moved_node to.fileid to.moment) c (insert (nodes_of taken) to.fileid entered)
-        (node_of q.stripes taken.own.directories c child.inode) node-there)
+        (node_of q.stripes taken.own.directories taken.own.texts c child.inode) node-there)
         ∙ sym (ap (λ (ns : Nodes). with_moved to_seen c ns) entry-come)
         ∙ sym (ap (λ (ns : Nodes). with_moved to_seen c (with_entry to_seen c ns)) entry-left)
 

@@ -13,10 +13,10 @@ use Rattle.nfs_model.specs.Moves.{PartsChange}
 use Rattle.nfs_model.specs.Locate.{Effect, Fails, unless, on_directory, on_name, Found, found_at, child, Naming, named_child}
 use Rattle.nfs_model.specs.Serial.Absent.{absent_parts}
 use Rattle.nfs_model.specs.volume.Directories.{DirectoryValue, found}
-use Rattle.nfs_model.specs.volume.Inodes.{InodeKind, RegularFile, DirectoryKind, Inode}
+use Rattle.nfs_model.specs.volume.Inodes.{InodeKind, DirectoryKind, Inode}
 use Rattle.filer_state.specs.state.Contents.{VolumeContents}
 use Rattle.filer_state.specs.state.Tree.{directory_or_empty, node_by, node_of, volume_of}
-use Rattle.filer_state.specs.state.Names.{parent_in, is_directory, is_named, root, times_in_list}
+use Rattle.filer_state.specs.state.Names.{parent_in, is_directory, times_in_list, names_of, times_named}
 use Rattle.filer_state.specs.state.WellFormed.{WellFormed}
 use Rattle.filer_state.specs.state.Partition.{stored, times_in_hand}
 use Rattle.filer_state.specs.state.Sound.{IsSound}
@@ -107,17 +107,17 @@ module _ (p : VolumeContents) (fileid : ℕ) (name : List ℕ) (moment : Moment)
   }
 
   -- what is known of a directory
-  pub record IsDirectoryHere (inode : Inode) (parent subdirectories : ℕ) : Type 0 where
+  pub record IsDirectoryHere (inode : Inode) (parent : ℕ) : Type 0 where
     pub there : get p.logical.inodes.inodes fileid ≡ Some inode
-    pub kind : inode.kind ≡ DirectoryKind parent subdirectories
+    pub says : parent_in inode.kind ≡ Some parent
     pub entered : get p.logical.directories fileid ≡ Some entries_here
 
-  pub entered-here : WellFormed p → (inode : Inode) (parent subs : ℕ) → get p.logical.inodes.inodes fileid ≡ Some inode
-      → inode.kind ≡ DirectoryKind parent subs → get p.logical.directories fileid ≡ Some entries_here
-  entered-here well inode parent subs there is = by (get p.logical.directories fileid) refl
+  pub entered-here : WellFormed p → (inode : Inode) (parent : ℕ) → get p.logical.inodes.inodes fileid ≡ Some inode
+      → parent_in inode.kind ≡ Some parent → get p.logical.directories fileid ≡ Some entries_here
+  entered-here well inode parent there says = by (get p.logical.directories fileid) refl
     where
       some : is_some (get p.logical.directories fileid) ≡ true
-      some = well.logical.named.as_directories fileid ∙ ap is_directory there ∙ ap (λ (k : InodeKind). is_some (parent_in k)) is
+      some = well.logical.named.as_directories fileid ∙ ap is_directory there ∙ ap (λ (o : Option ℕ). is_some o) says
 
       by : (o : Option DirectoryValue) → get p.logical.directories fileid ≡ o → o ≡ Some (directory_or_empty o)
       by None e = let none : is_some (get p.logical.directories fileid) ≡ false = ap (λ x. is_some x) e in let t = some in absurd cc
@@ -126,7 +126,7 @@ module _ (p : VolumeContents) (fileid : ℕ) (name : List ℕ) (moment : Moment)
   -- what holds of failures, and of the call on each directory that is there, holds of the call
   pub named-right : WellFormed p → (Right : LogicalAnswer → Effect → Type 0) (run : HeldNaming → LogicalAnswer) (model : Naming → Effect)
       → ((status : Status) → Right (fails status (logical_lens.of p)) (Fails status))
-      → ((inode : Inode) (parent subs : ℕ) → IsDirectoryHere inode parent subs → Right (run (naming_held inode)) (model (naming_seen inode parent)))
+      → ((inode : Inode) (parent : ℕ) → IsDirectoryHere inode parent → Right (run (naming_held inode)) (model (naming_seen inode parent)))
       → Right (on_held_name p.number fileid name moment run (logical_lens.of p)) (on_name name moment model (volume_of p) fileid)
   named-right well Right run model failure goes =
       subst (λ (o : Option Node). Right (on_held_name p.number fileid name moment run (logical_lens.of p)) (on_directory o asked)) (sym (node-at p fileid))
@@ -143,22 +143,22 @@ module _ (p : VolumeContents) (fileid : ℕ) (name : List ℕ) (moment : Moment)
 
       kinds : (inode : Inode) → get p.logical.inodes.inodes fileid ≡ Some inode → (kind : InodeKind) → inode.kind ≡ kind
           → Right (on_kind kind (naming_held inode) run)
-          (on_directory (Some (node_by p.stripes (get p.logical.directories fileid) fileid inode.attributes kind)) asked)
-      kinds inode there (RegularFile size filled verifier) is = failure _
+          (on_directory (Some (node_by p.stripes (get p.logical.directories fileid) (get p.logical.texts fileid) fileid inode.attributes inode.names kind)) asked)
       kinds inode there (DirectoryKind parent subs) is =
           checked (name_fault name) (run (naming_held inode)) (model (naming_seen inode parent))
-          (goes inode parent subs (record { there = there; kind = is; entered = entered-here well inode parent subs there is }))
+          (goes inode parent (record { there = there; says = ap parent_in is; entered = entered-here well inode parent there (ap parent_in is) }))
+      kinds inode there kind is = failure _
 
       by : (o : Option Inode) → get p.logical.inodes.inodes fileid ≡ o
           → Right (on_inode o (logical_lens.of p) (λ inode. on_kind inode.kind (naming_held inode) run))
-          (on_directory (option_map (node_of p.stripes p.logical.directories fileid) o) asked)
+          (on_directory (option_map (node_of p.stripes p.logical.directories p.logical.texts fileid) o) asked)
       by None e = failure _
       by (Some inode) e = kinds inode e inode.kind refl
 
   -- its attributes before
-  pub before-shown : WellFormed p → (inode : Inode) (parent subs : ℕ) → IsDirectoryHere inode parent subs
+  pub before-shown : WellFormed p → (inode : Inode) (parent : ℕ) → IsDirectoryHere inode parent
       → shown (volume_of p) fileid (Directory (naming_seen inode parent).directory) ≡ shown_inode p.number fileid inode None
-  before-shown well inode parent subs here = directory-kind-shown p fileid well inode parent subs here.there here.kind
+  before-shown well inode parent here = directory-kind-shown p fileid well inode parent here.there here.says
 
 -- ---- the node under the name
 
@@ -183,9 +183,8 @@ module _ (p : VolumeContents) (well : WellFormed p) (fileid : ℕ) (name : List 
       let some = found-counted name d.list e h in
       let more = entry-at-least nat_cmp-IsAntisymmetric (λ (x : ℕ × DirectoryValue). times_in_list e.fileid x.1.list)
       p.logical.directories fileid d entered in
-      let once = well.logical.named.once e.fileid in
-      let zero : one_if (is_named p.logical.inodes.inodes e.fileid) ≡ 0 = ap (λ o. one_if (is_some o && not (e.fileid == root))) none in
-      omega (arith, some, more, once, zero)
+      let zero : times_named e.fileid p.logical.directories ≡ 0 = well.logical.named.counted e.fileid ∙ ap names_of none in
+      omega (arith, some, more, zero)
 
 -- what is known of the node under a name
 pub record IsChildHere (p : VolumeContents) (fileid : ℕ) (name : List ℕ) (child : HeldNode) : Type 0 where
@@ -196,10 +195,10 @@ pub record IsChildHere (p : VolumeContents) (fileid : ℕ) (name : List ℕ) (ch
 
 -- the node as the serial server sees it
 abbrev pub found_seen : VolumeContents → HeldNode → Found
-found_seen p c = record { fileid = c.fileid; node = node_of p.stripes p.logical.directories c.fileid c.inode }
+found_seen p c = record { fileid = c.fileid; node = node_of p.stripes p.logical.directories p.logical.texts c.fileid c.inode }
 
-module _ (p : VolumeContents) (well : WellFormed p) (fileid : ℕ) (name : List ℕ) (moment : Moment) (inode : Inode) (parent subs : ℕ)
-    (here : IsDirectoryHere p fileid name moment inode parent subs) where
+module _ (p : VolumeContents) (well : WellFormed p) (fileid : ℕ) (name : List ℕ) (moment : Moment) (inode : Inode) (parent : ℕ)
+    (here : IsDirectoryHere p fileid name moment inode parent) where
   -- what holds where the name isn't there, and of each node that has it, holds of the node under the name
   pub child-right : (Right : Option HeldNode → Option Found → Type 0)
       → (found (entries_of p.logical fileid) name ≡ None → Right None None)
@@ -208,7 +207,7 @@ module _ (p : VolumeContents) (well : WellFormed p) (fileid : ℕ) (name : List 
   child-right Right absent there = by (find_name name (entries_of p.logical fileid).list) refl
     where
       at : (e : Listed) → find_name name (entries_of p.logical fileid).list ≡ Some e → (o : Option Inode) → get p.logical.inodes.inodes e.fileid ≡ o
-          → Right (node_there e.fileid o) (found_at e.fileid (option_map (node_of p.stripes p.logical.directories e.fileid) o))
+          → Right (node_there e.fileid o) (found_at e.fileid (option_map (node_of p.stripes p.logical.directories p.logical.texts e.fileid) o))
       at e h None none = absurd (entry-there p well fileid name (entries_of p.logical fileid) here.entered e h none)
       at e h (Some i) some =
           there (record { fileid = e.fileid; inode = i }) (record { entry = e; found_there = h; is = refl; node = some })

@@ -1,152 +1,35 @@
 -- REMOVE by what is under Logical.
-use Rattle.std.proofs.Common.{◌≡◌, ℕ, ◌+◌, ◌-◌, ◌==◌, Bool, true, false, List, length, Option, Some}
-use Rattle.std.proofs.Common.{refl, sym, ap, ◌∙◌, subst, arith, ne_eqb}
-use Rattle.std.specs.Prelude.{if◌then◌else◌, is_some}
-use Rattle.std.specs.Option.{option_map}
-use Rattle.std.specs.Ordering.{nat_cmp}
-use Rattle.std.specs.FinMap.{get, insert, remove}
-use Rattle.std.specs.FinSet as sets
-use Rattle.nfs_model.specs.Types.{Moment, Status, Invalid}
+use Rattle.std.proofs.Common.{◌≡◌, ℕ, ◌+◌, Bool, true, false, List, length, Option, Some, None}
+use Rattle.std.proofs.Common.{refl, sym, ap, ◌∙◌, arith}
+use Rattle.std.specs.Prelude.{if◌then◌else◌, nat_le}
+use Rattle.std.specs.FinMap.{get}
+use Rattle.nfs_model.specs.Types.{Moment, Status, Answer, GoneDone, Invalid}
 use Rattle.nfs_model.specs.Tree.{Affinity}
 use Rattle.nfs_model.specs.Names.{is_dots}
-use Rattle.nfs_model.specs.Server.{Node, File, VolumeState, filled_in, used}
+use Rattle.nfs_model.specs.Shown.{before_of}
 use Rattle.nfs_model.specs.Locate.{Effect, Fails, Found, Naming, named_child}
-use Rattle.nfs_model.specs.Serial.Remove as removes
-use Rattle.nfs_model.specs.Serial.Remove.{without_child, gone, remove_node, remove_at, remove_name}
-use Rattle.nfs_model.specs.Serial.Setattr.{with_node}
-use Rattle.nfs_model.specs.Moves.{Emptied}
+use Rattle.nfs_model.specs.Serial.Remove.{gone, remove_found, remove_at, remove_name}
 use Rattle.nfs_model.specs.Parts.{Hand}
-use Rattle.nfs_model.specs.volume.Inodes.{InodeKind, RegularFile, DirectoryKind, Inode, filled_blocks}
-use Rattle.nfs_model.specs.volume.lemmas.Inodes.{inode-set-there, inode-set-other}
+use Rattle.nfs_model.specs.volume.Inodes.{InodeKind, RegularFile, DirectoryKind, SpecialFile, Inode}
 use Rattle.filer_state.specs.state.Contents.{VolumeContents}
-use Rattle.filer_state.specs.state.Tree.{file_filled, node_by, node_of, volume_of}
-use Rattle.filer_state.specs.state.Names.{is_directory, parent_in}
-use Rattle.filer_state.specs.state.Partition.{parts_of}
+use Rattle.filer_state.specs.state.Tree.{node_by, volume_of}
+use Rattle.filer_state.specs.state.Names.{parent_in}
 use Rattle.filer_state.specs.state.Sound.{IsSound}
 use Rattle.filer_state.specs.state.Lenses.{LogicalSet, logical_lens}
 use Rattle.filer_state.specs.state.Calls.{VolumeCall}
 use Rattle.filer_state.specs.state.Changes.{LogicalAnswer}
-use Rattle.filer_state.specs.laws.lemmas.Counted.{node-filled}
 use Rattle.filer_state.specs.laws.lemmas.Steps.{sound-later}
-use Rattle.filer_state.specs.attributes.lemmas.Getting.{node-at}
-use Rattle.filer_state.specs.nodes.Dropping.{Dropping}
-use Rattle.filer_state.specs.nodes.Sizing.{Sizing, all_freed, kind_sized}
-use Rattle.filer_state.specs.nodes.Laws.{WeighAlike, LosesName, IsEmptyKind, file_resized, file_seen}
-use Rattle.filer_state.specs.nodes.lemmas.Sized.{sized_in, sound-sized}
-use Rattle.filer_state.specs.nodes.lemmas.SizedNodes.{volume-sized}
-use Rattle.filer_state.specs.nodes.lemmas.Emptied.{emptied-sized}
-use Rattle.filer_state.specs.nodes.lemmas.Dropped.{left_in}
-use Rattle.filer_state.specs.changes.Named.{fails, HeldNaming, HeldNode, node_under}
-use Rattle.filer_state.specs.changes.Dropping.{dropping_of, emptying_of, child_emptied, file_gone, remove_kind, remove_by, held_remove}
+use Rattle.filer_state.specs.nodes.Making.{directories_in}
+use Rattle.filer_state.specs.nodes.Dropping.{directory_left, without_subdirectories}
+use Rattle.filer_state.specs.nodes.Sizing.{kind_sized, all_freed}
+use Rattle.filer_state.specs.nodes.Laws.{WeighAlike}
+use Rattle.filer_state.specs.changes.Named.{fails, HeldNaming, HeldNode, directory_change, node_under}
+use Rattle.filer_state.specs.changes.Dropping.{dropping_of, last_gone, one_gone, name_gone, remove_kind, remove_by, held_remove}
 use Rattle.filer_state.specs.changes.Laws.{IsDone, remove_call, remove_done}
 use Rattle.filer_state.specs.changes.lemmas.Named.{RightAs, done-right, naming_held, naming_seen, IsDirectoryHere, named-right, IsChildHere, child-right}
+use Rattle.filer_state.specs.changes.lemmas.Named.{found_seen, before-shown}
 use Rattle.filer_state.specs.changes.lemmas.Setattr.{unchanged}
-use Rattle.filer_state.specs.changes.lemmas.Setting.{set-there}
-use Rattle.filer_state.specs.changes.lemmas.Gone.{remove-put, none-before, gone-right, parts-gone, used-gone}
-
-module _ (p : VolumeContents) (fileid : ℕ) (name : List ℕ) (moment : Moment) (inode : Inode) (parent subs : ℕ)
-    (here : IsDirectoryHere p fileid name moment inode parent subs) (child : HeldNode) (under : IsChildHere p fileid name child)
-    (size filled : ℕ) (verifier : Option (List ℕ)) (is_file : child.inode.kind ≡ RegularFile size filled verifier)
-    (hands : List Hand) (made : ℕ) (sound : IsSound p hands made) where
-  abbrev f : ℕ
-  f = child.fileid
-
-  abbrev emptying : Sizing
-  emptying = emptying_of child
-
-  -- the volume in which the file has no bytes
-  abbrev q : VolumeContents
-  q = sized_in emptying p
-
-  abbrev left : HeldNode
-  left = child_emptied child (logical_lens.of p)
-
-  abbrev m : Dropping
-  m = dropping_of (naming_held p fileid name moment inode) left
-
-  pub sound-emptied : IsSound q hands made
-  sound-emptied = sound-sized p emptying sound.well_formed under.node size filled verifier is_file (omega arith) hands hands made made (omega arith)
-      (λ n. refl) sound
-
-  volume-emptied : volume_of q ≡ with_node (volume_of p) f (File (file_resized 0 child.inode.attributes (file_seen p emptying size verifier)))
-  volume-emptied = volume-sized p emptying sound.well_formed under.node size filled verifier is_file (omega arith)
-
-  there-emptied : get q.logical.inodes.inodes f ≡ Some left.inode
-  there-emptied = inode-set-there p.logical.inodes f child.inode left.inode under.node
-
-  abbrev emptied_node : Node
-  emptied_node = File (file_resized 0 child.inode.attributes (file_seen p emptying size verifier))
-
-  node-emptied : node_of q.stripes q.logical.directories f left.inode ≡ emptied_node
-  node-emptied =
-      let found : Some (node_of q.stripes q.logical.directories f left.inode) ≡ Some emptied_node =
-      sym (node-at q f ∙ ap (option_map (node_of q.stripes q.logical.directories f)) there-emptied)
-      ∙ ap (λ v. get v.nodes f) volume-emptied ∙ set-there (volume_of p) f emptied_node in
-      cc
-
-  -- it has no block
-  none-filled : filled_blocks left.inode.kind ≡ 0
-  none-filled =
-      sym (node-filled q sound-emptied.well_formed f left.inode there-emptied)
-      ∙ ap filled_in node-emptied ∙ ap sets.len (none-before (file_filled p.stripes f)) ∙ sets.len-empty nat_cmp
-
-  -- the directory is another node
-  apart : (fileid == f) ≡ false
-  apart = ne_eqb fileid f (λ e.
-      let same : Some inode ≡ Some child.inode = sym here.there ∙ ap (get p.logical.inodes.inodes) e ∙ under.node in
-      let one : inode ≡ child.inode = cc in
-      let kinds : DirectoryKind parent subs ≡ RegularFile size filled verifier = sym here.kind ∙ ap (λ (i : Inode). i.kind) one ∙ is_file in
-      absurd cc)
-
-  pub loses : LosesName m q.logical.inodes q.logical.directories
-  loses = record {
-    there = inode-set-other p.logical.inodes f left.inode fileid apart ∙ here.there;
-    entered = here.entered;
-    entry = under.entry;
-    found_there = under.found_there;
-    is = under.is;
-    node = there-emptied;
-    kind = empty child.inode.kind none-filled;
-    empty = λ d e.
-        let as_directory : is_directory (get p.logical.inodes.inodes f) ≡ false =
-        ap is_directory under.node ∙ ap (λ (k : InodeKind). is_some (parent_in k)) is_file in
-        let some : is_some (get p.logical.directories f) ≡ true = ap (λ o. is_some o) e in
-        let as_directories = sound.well_formed.logical.named.as_directories f in
-        absurd cc;
-  }
-    where
-      empty : (k : InodeKind) → filled_blocks (kind_sized 0 (length (all_freed f 0 p.stripes)) k) ≡ 0
-          → IsEmptyKind (kind_sized 0 (length (all_freed f 0 p.stripes)) k)
-      empty (RegularFile s n v) h = (refl, h)
-      empty (DirectoryKind up below) h = tt
-
-  module _ (hands' : List Hand) (weigh : WeighAlike p.number hands hands') where
-    abbrev after : VolumeContents
-    after = left_in m q
-
-    pub seen-left : record (volume_of q) {
-      nodes = insert (remove (volume_of q).nodes f) fileid (removes.directory_left (naming_seen p fileid name moment inode parent));
-    } ≡ without_child (naming_seen p fileid name moment inode parent) f
-    seen-left =
-        ap (λ (v : VolumeState). record v {
-          nodes = insert (remove v.nodes f) fileid (removes.directory_left (naming_seen p fileid name moment inode parent));
-        }) volume-emptied
-        ∙ ap (λ ns. record (volume_of p) { nodes = insert ns fileid (removes.directory_left (naming_seen p fileid name moment inode parent)) })
-        (remove-put (volume_of p).nodes f emptied_node)
-
-    pub emptied : Emptied (used (volume_of p) - used (volume_of after)) (parts_of p) (parts_of after)
-    emptied =
-        subst (λ (n : ℕ). Emptied (used (volume_of p) - n) (parts_of p) (parts_of after))
-        (sym (used-gone q m loses parent subs here.kind hands hands made made (omega arith) (λ n. refl) sound-emptied))
-        (subst (Emptied (used (volume_of p) - used (volume_of q)) (parts_of p))
-        (sym (parts-gone q m loses parent subs here.kind hands hands made made (omega arith) (λ n. refl) sound-emptied))
-        (emptied-sized p emptying hands sound.partition sound.well_formed under.node size filled verifier is_file (omega arith)))
-
-    file-gone : (handle : List ℕ) (node : Affinity)
-        → RightAs (remove_call handle node fileid name moment) p hands' (made + 1) (file_gone (naming_held p fileid name moment inode) child)
-        (gone (naming_seen p fileid name moment inode parent) f)
-    file-gone handle node = gone-right p fileid name moment inode parent subs here left (logical_lens.of q) hands hands' made sound weigh
-        (remove_call handle node fileid name moment) loses sound-emptied seen-left emptied
+use Rattle.filer_state.specs.changes.lemmas.NamesGone.{gone-all, gone-shown}
 
 -- ---- the procedure
 
@@ -161,30 +44,62 @@ module _ (fileid : ℕ) (handle name : List ℕ) (node : Affinity) (moment : Mom
     failure : (status : Status) → Right (fails status (logical_lens.of p)) (Fails status)
     failure status = (refl, refl, unchanged p, sound-later p hands hands' made weigh sound)
 
-    module _ (inode : Inode) (parent subs : ℕ) (here : IsDirectoryHere p fileid name moment inode parent subs) where
+    module _ (inode : Inode) (parent : ℕ) (here : IsDirectoryHere p fileid name moment inode parent) where
       abbrev held : HeldNaming
       held = naming_held p fileid name moment inode
 
       abbrev seen : Naming
       seen = naming_seen p fileid name moment inode parent
 
-      by-kind : (child : HeldNode) → IsChildHere p fileid name child → (kind : InodeKind) → child.inode.kind ≡ kind
-          → Right (remove_kind held child kind)
-          (remove_node seen child.fileid (node_by p.stripes (get p.logical.directories child.fileid) child.fileid child.inode.attributes kind))
-      by-kind child under (RegularFile size filled verifier) is =
-          file-gone p fileid name moment inode parent subs here child under size filled verifier is hands made sound hands' weigh handle node
-      by-kind child under (DirectoryKind up below) is = failure _
+      module _ (child : HeldNode) (under : IsChildHere p fileid name child) where
+        name-right : (kind : InodeKind) → child.inode.kind ≡ kind → parent_in kind ≡ None → Right (name_gone held child) (gone seen (found_seen p child))
+        name-right kind is none =
+            let gone_now = gone-all p fileid name moment inode parent here child under hands hands' made (made + 1) (omega arith) sound weigh
+            (λ up below directory. absurd (let wrong : None ≡ Some up = sym none ∙ sym (ap parent_in is) ∙ ap parent_in directory in cc)) in
+            let before = ap before_of (sym (before-shown p fileid name moment sound.well_formed inode parent here)) in
+            let later = sym (gone-shown p fileid name moment inode parent here child under hands hands' made (made + 1) (omega arith) sound weigh
+            (name_gone held child).set gone_now) in (
+              told-same (nat_le child.inode.names 1) child.inode.kind
+                  ∙ (λ j. GoneDone (record { before = before j; after = later j })),
+              gone_now.volume,
+              gone_now.emptied,
+              gone_now.sound,
+            )
+          where
+            told : Answer
+            told = GoneDone (directory_change held (directory_left (dropping_of held child)))
+
+            told-last : (k : InodeKind) → child.inode.kind ≡ k → (last_gone held child k).answer ≡ told
+            told-last (RegularFile size filled verifier) is =
+                ap (λ (n : ℕ). GoneDone (directory_change held (record inode {
+                  attributes = record inode.attributes { mtime = moment; ctime = moment };
+                  kind = without_subdirectories n inode.kind;
+                })))
+                (ap (λ (k : InodeKind). directories_in (kind_sized 0 (length (all_freed child.fileid 0 p.stripes)) k)) is ∙ sym (ap directories_in is))
+            told-last k is = refl
+
+            told-same : (b : Bool) (k : InodeKind) → (if b then last_gone held child child.inode.kind else one_gone held child).answer ≡ told
+            told-same true k = told-last child.inode.kind refl
+            told-same false k = refl
+
+        by-kind : (kind : InodeKind) → child.inode.kind ≡ kind
+            → Right (remove_kind held child kind)
+            (remove_found seen (found_seen p child)
+            (node_by p.stripes (get p.logical.directories child.fileid) (get p.logical.texts child.fileid) child.fileid child.inode.attributes child.inode.names kind))
+        by-kind (DirectoryKind up below) is = failure _
+        by-kind (RegularFile size filled verifier) is = name-right (RegularFile size filled verifier) is refl
+        by-kind (SpecialFile special size) is = name-right (SpecialFile special size) is refl
 
       by-dots : (b : Bool) → Right (if b then fails Invalid (logical_lens.of p) else remove_by held (node_under held))
           (if b then Fails Invalid else remove_at seen (named_child seen))
       by-dots true = failure _
-      by-dots false = child-right p sound.well_formed fileid name moment inode parent subs here
+      by-dots false = child-right p sound.well_formed fileid name moment inode parent here
           (λ (c : Option HeldNode) (found : Option Found). Right (remove_by held c) (remove_at seen found))
           (λ absent. failure _) (λ child under. by-kind child under child.inode.kind refl)
 
     removes-right : Right (remove_done p.number fileid name moment (logical_lens.of p)) (call.run (volume_of p))
     removes-right = named-right p fileid name moment sound.well_formed Right held_remove remove_name failure
-        (λ inode parent subs here. by-dots inode parent subs here (is_dots name))
+        (λ inode parent here. by-dots inode parent here (is_dots name))
 
   -- REMOVE
   pub remove-done : (v : ℕ) (s : LogicalSet) → IsDone v call s (remove_done v fileid name moment s)

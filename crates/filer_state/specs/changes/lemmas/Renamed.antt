@@ -7,17 +7,17 @@ use Rattle.std.specs.List.{AllByRecursion}
 use Rattle.std.specs.Option.{option_map}
 use Rattle.std.specs.FinMap.{get, nat_cmp-IsAntisymmetric}
 use Rattle.nfs_model.specs.Types.{Listed}
-use Rattle.nfs_model.specs.Server.{Attributes, Directory}
+use Rattle.nfs_model.specs.Server.{Directory}
 use Rattle.nfs_model.specs.Names.{same_name, find_name}
 use Rattle.nfs_model.specs.Parts.{one_if}
 use Rattle.nfs_model.specs.volume.Directories.{DirectoryValue, found, removed}
-use Rattle.nfs_model.specs.volume.Inodes.{InodeKind, RegularFile, DirectoryKind, Inode}
-use Rattle.nfs_model.specs.volume.Stripes.{StripeValue}
+use Rattle.nfs_model.specs.volume.Inodes.{Inode}
 use Rattle.nfs_model.specs.volume.lemmas.Directories.{same-is, found-removed, found-removed-other}
 use Rattle.filer_state.specs.state.Contents.{VolumeContents}
-use Rattle.filer_state.specs.state.Tree.{directory_or_empty, node_by, node_of, volume_of}
-use Rattle.filer_state.specs.state.Names.{root, InodeMap, parent_in, parent_directory, parent_or, is_directory, is_named, times_in_list, directory_above}
+use Rattle.filer_state.specs.state.Tree.{directory_or_empty, node_of, volume_of}
+use Rattle.filer_state.specs.state.Names.{root, InodeMap, parent_in, parent_directory, parent_or, is_directory, times_in_list, directory_above, times_named}
 use Rattle.filer_state.specs.state.WellFormed.{WellFormed}
+use Rattle.filer_state.specs.laws.lemmas.InodeKinds as kinds
 use Rattle.filer_state.specs.laws.lemmas.Mapped.{entry-at-least}
 use Rattle.filer_state.specs.attributes.lemmas.Getting.{node-at}
 use Rattle.filer_state.specs.names.Answers.{entries_of}
@@ -63,22 +63,13 @@ above-same new old same zero q = refl
 above-same new old same (suc n) q =
     ap (λ o. directory_above new n (parent_or o q)) (same q) ∙ above-same new old same n (parent_or (parent_directory (get old q)) q)
 
-directory-kind-seen : (stripes : List StripeValue) (o : Option DirectoryValue) (q : ℕ) (a : Attributes) (k : InodeKind) (parent : ℕ)
-    → parent_in k ≡ Some parent
-    → node_by stripes o q a k
-    ≡ Directory (record { attributes = a; parent = parent; next = (directory_or_empty o).next; list = (directory_or_empty o).list })
-directory-kind-seen stripes o q a (RegularFile size filled verifier) parent says = absurd cc
-directory-kind-seen stripes o q a (DirectoryKind up subdirectories) parent says =
-    let same : up ≡ parent = cc in
-    λ j. Directory (record { attributes = a; parent = same j; next = (directory_or_empty o).next; list = (directory_or_empty o).list })
-
 -- a directory that is there, as it is seen
 pub directory-seen : (q : VolumeContents) (f : ℕ) (inode : Inode) (parent : ℕ) → get q.logical.inodes.inodes f ≡ Some inode
     → parent_in inode.kind ≡ Some parent
     → get (volume_of q).nodes f ≡ Some (Directory (seen_directory inode (entries_of q.logical f) parent))
 directory-seen q f inode parent there says =
-    node-at q f ∙ ap (option_map (node_of q.stripes q.logical.directories f)) there
-    ∙ ap Some (directory-kind-seen q.stripes (get q.logical.directories f) f inode.attributes inode.kind parent says)
+    node-at q f ∙ ap (option_map (node_of q.stripes q.logical.directories q.logical.texts f)) there
+    ∙ ap Some (kinds.directory-seen q.stripes (get q.logical.directories f) (get q.logical.texts f) f inode.attributes inode.names inode.kind parent says)
 
 -- ---- a node under a name
 
@@ -96,10 +87,9 @@ module _ (q : VolumeContents) (well : WellFormed q) (f : ℕ) (name : List ℕ) 
           (found-counted name (entries_of q.logical f).list under.entry under.found_there) in
           let more = entry-at-least nat_cmp-IsAntisymmetric (λ (x : ℕ × DirectoryValue). times_in_list child.fileid x.1.list)
           q.logical.directories f (entries_of q.logical f) entered in
-          let once = well.logical.named.once child.fileid in
-          let zero : one_if (is_named q.logical.inodes.inodes child.fileid) ≡ 0 =
-          ap (λ o. one_if (is_some o && not (child.fileid == root))) under.node ∙ ap (λ (t : Bool). one_if (not t)) e in
-          absurd (omega (arith, some, more, once, zero))
+          let zero : times_named child.fileid q.logical.directories ≡ 0 = ap (λ (k : ℕ). times_named k q.logical.directories) (eqb-true child.fileid root e)
+          ∙ well.logical.named.counted root ∙ well.logical.named.once root (ap (λ (o : Option ℕ). is_some o) well.logical.named.root_there) in
+          absurd (omega (arith, some, more, zero))
 
   -- where it is a directory, its parent is the one in which it stands
   pub child-parent : IfSome (parent_directory (get q.logical.inodes.inodes child.fileid)) (λ parent. parent ≡ f)

@@ -1,22 +1,22 @@
 -- RENAME by what is under Logical.
-use Rattle.std.proofs.Common.{◌≡◌, ℕ, ◌+◌, ◌-◌, ◌==◌, ◌&&◌, ◌||◌, not, Bool, true, false, List, Option, Some, None, refl, sym, ap, ◌∙◌, subst}
+use Rattle.std.proofs.Common.{◌≡◌, ℕ, ◌+◌, ◌-◌, ◌==◌, ◌&&◌, ◌||◌, not, Bool, true, false, List, Option, Some, None, refl, sym, ap, ◌∙◌, subst, ne_eqb, eq-eqb}
 use Rattle.std.proofs.Common.{eq-eqb}
 use Rattle.std.specs.Prelude.{IsTrue, length, if◌then◌else◌, slice_get, is_some}
 use Rattle.std.specs.FinMap.{get}
-use Rattle.nfs_model.specs.Types.{Moment, Status, Wcc, Answer, Rename, RenameDone, Invalid, NameTooLong, Exists}
+use Rattle.nfs_model.specs.Types.{Moment, Status, Wcc, Answer, Rename, RenameDone, Invalid, NameTooLong, Exists, Listed}
 use Rattle.nfs_model.specs.Tree.{Affinity}
-use Rattle.nfs_model.specs.Names.{same_name, is_dots, name_fault}
+use Rattle.nfs_model.specs.Names.{same_name, is_dots, name_fault, find_name}
 use Rattle.nfs_model.specs.Server.{VolumeState, Server, Named, handle_of, named_read, used}
 use Rattle.nfs_model.specs.Shown.{before_of}
 use Rattle.nfs_model.specs.Parts.{Hand}
 use Rattle.nfs_model.specs.Moves.{Emptied}
-use Rattle.nfs_model.specs.Locate.{Effect, Fails, unless, Found, named_child, Located, located_in, located_by, locate}
+use Rattle.nfs_model.specs.Locate.{Effect, Fails, unless, Found, named_child, Located, located_in, located_by, locate, is_node_of, node_named}
 use Rattle.nfs_model.specs.Serial.Rename as renames
-use Rattle.nfs_model.specs.Serial.Rename.{Renaming, Climb, PastIt, ToIt, TooFar, climb_fault, may_go, with_moved, with_entry, without_entry, renamed_volume}
-use Rattle.nfs_model.specs.Serial.Rename.{rename_told, same_told, is_same_entry, rename_at, rename_in}
-use Rattle.nfs_model.specs.Serial.Starve.{takes_memory}
-use Rattle.nfs_model.specs.volume.Inodes.{DirectoryKind, Inode}
-use Rattle.nfs_model.specs.volume.Directories.{found}
+use Rattle.nfs_model.specs.Serial.Rename.{Renaming, Climb, PastIt, ToIt, TooFar, climb_fault, may_go, with_moved, with_entry, without_entry, renamed_volume, met_above}
+use Rattle.nfs_model.specs.Serial.Rename.{rename_told, same_told, rename_at, rename_in}
+use Rattle.nfs_model.specs.Serial.Starve.{takes_memory, name_one, entry_in, entry_named}
+use Rattle.nfs_model.specs.volume.Inodes.{Inode}
+use Rattle.nfs_model.specs.volume.Directories.{found, fileid_found}
 use Rattle.nfs_model.specs.volume.lemmas.Directories.{same-is}
 use Rattle.filer_state.specs.state.Contents.{VolumeContents}
 use Rattle.filer_state.specs.state.Tree.{node_of, volume_of}
@@ -31,16 +31,18 @@ use Rattle.filer_state.specs.laws.lemmas.Steps.{sound-later}
 use Rattle.filer_state.specs.names.Answers.{entries_of}
 use Rattle.filer_state.specs.nodes.Laws.{WeighAlike}
 use Rattle.filer_state.specs.changes.Named.{HeldNode, node_under}
-use Rattle.filer_state.specs.changes.Renaming.{HeldRenaming, fails_both, unless_both, is_one_entry, held_above, target_may_go, child_taken, child_hung}
+use Rattle.filer_state.specs.changes.Renaming.{HeldRenaming, fails_both, unless_both, held_above, target_may_go, child_taken, child_hung, is_held}
 use Rattle.filer_state.specs.changes.Renaming.{target_gone, set_renamed, held_renamed, rename_by, held_rename}
 use Rattle.filer_state.specs.changes.Laws.{IsDone, MayStarve, rename_call, rename_done}
 use Rattle.filer_state.specs.changes.lemmas.Named.{RightFor, done-right-for, naming_held, naming_seen, IsDirectoryHere, entered-here, before-shown}
 use Rattle.filer_state.specs.changes.lemmas.Named.{IsChildHere, found_seen, child-right}
 use Rattle.filer_state.specs.changes.lemmas.Setattr.{unchanged}
-use Rattle.filer_state.specs.changes.lemmas.Makes.{may-starve}
+use Rattle.filer_state.specs.changes.lemmas.Makes.{may-starve, EntrySeen, NoEntryThere, ThatEntry, entry-seen}
 use Rattle.filer_state.specs.changes.lemmas.Hanging.{q_hung, sound-hung, from-some, to-some, volume-hung, parts-hung, used-hung}
 use Rattle.filer_state.specs.changes.lemmas.Replacing.{IsFree, free-by}
 use Rattle.filer_state.specs.changes.lemmas.Told.{directory-right, directory-told, met-seen, may-go-seen, clear-of}
+use Rattle.filer_state.specs.permissions.Refusing.{are_one}
+use Rattle.std.specs.Option.{option_map}
 
 module _ (from to : List ℕ) (node : Affinity) (from_id : ℕ) (from_name : List ℕ) (to_id : ℕ) (to_name : List ℕ) (moment : Moment) where
   abbrev call : VolumeCall
@@ -59,8 +61,8 @@ module _ (from to : List ℕ) (node : Affinity) (from_id : ℕ) (from_name : Lis
     checked (Some status) done effect right = failure status
 
     -- both directories are there
-    module _ (fi : Inode) (fp fs : ℕ) (here_from : IsDirectoryHere p from_id from_name moment fi fp fs)
-        (ti : Inode) (tp ts : ℕ) (here_to : IsDirectoryHere p to_id to_name moment ti tp ts) where
+    module _ (fi : Inode) (fp : ℕ) (here_from : IsDirectoryHere p from_id from_name moment fi fp)
+        (ti : Inode) (tp : ℕ) (here_to : IsDirectoryHere p to_id to_name moment ti tp) where
       abbrev h : HeldRenaming
       h = record { from = naming_held p from_id from_name moment fi; to = naming_held p to_id to_name moment ti }
 
@@ -72,8 +74,8 @@ module _ (from to : List ℕ) (node : Affinity) (from_id : ℕ) (from_name : Lis
           → is_some (get set.own.directories from_id) ≡ true → is_some (get set.own.directories to_id) ≡ true
           → (held_renamed h set).answer ≡ RenameDone (renames.directory_change r.from new) (renames.directory_change r.to new)
       told set new well is from_some to_some =
-          let f0 = ap before_of (sym (before-shown p from_id from_name moment sound.well_formed fi fp fs here_from)) in
-          let t0 = ap before_of (sym (before-shown p to_id to_name moment sound.well_formed ti tp ts here_to)) in
+          let f0 = ap before_of (sym (before-shown p from_id from_name moment sound.well_formed fi fp here_from)) in
+          let t0 = ap before_of (sym (before-shown p to_id to_name moment sound.well_formed ti tp here_to)) in
           let f1 = sym (directory-told (logical_lens.put set p) well h.from new r.from.directory is from_some) in
           let t1 = sym (directory-told (logical_lens.put set p) well h.to new r.to.directory is to_some) in
           λ j. RenameDone (record { before = f0 j; after = f1 j }) (record { before = t0 j; after = t1 j })
@@ -113,7 +115,7 @@ module _ (from to : List ℕ) (node : Affinity) (from_id : ℕ) (from_name : Lis
             )
 
         to-directory : is_directory (get p.logical.inodes.inodes to_id) ≡ true
-        to-directory = ap (λ (i : Option Inode). is_directory i) here_to.there ∙ ap (λ k. is_some (parent_in k)) here_to.kind
+        to-directory = ap (λ (i : Option Inode). is_directory i) here_to.there ∙ ap (λ (o : Option ℕ). is_some o) here_to.says
 
         clear : held_above h child.fileid child.inode.kind ≡ PastIt
             → (k : ℕ) → (directory_above p.logical.inodes.inodes k to_id == child.fileid) ≡ false
@@ -126,10 +128,10 @@ module _ (from to : List ℕ) (node : Affinity) (from_id : ℕ) (from_name : Lis
           sound = sound;
           volume = refl;
           may = record {
-            from_says = ap parent_directory here_from.there ∙ ap parent_in here_from.kind;
+            from_says = ap parent_directory here_from.there ∙ here_from.says;
             from_entered = here_from.entered;
             under = under;
-            to_says = ap parent_directory here_to.there ∙ ap parent_in here_to.kind;
+            to_says = ap parent_directory here_to.there ∙ here_to.says;
             to_entered = here_to.entered;
             absent = absent;
             clear = clear passes;
@@ -139,16 +141,17 @@ module _ (from to : List ℕ) (node : Affinity) (from_id : ℕ) (from_name : Lis
 
         -- the checks, and what follows
         module _ (target : Option HeldNode) (found_target : Option Found)
-            (go : may_go (node_of p.stripes p.logical.directories child.fileid child.inode) found_target ≡ target_may_go (logical_lens.of p) child target)
-            (goes : is_one_entry h ≡ false → held_above h child.fileid child.inode.kind ≡ PastIt → target_may_go (logical_lens.of p) child target ≡ true
+            (one_node : is_node_of child.fileid found_target ≡ is_held child target)
+            (go : may_go (node_of p.stripes p.logical.directories p.logical.texts child.fileid child.inode) found_target ≡ target_may_go (logical_lens.of p) child target)
+            (goes : is_held child target ≡ false → held_above h child.fileid child.inode.kind ≡ PastIt → target_may_go (logical_lens.of p) child target ≡ true
             → Right (held_renamed h (set_renamed h child target)) (rename_told r (renamed_volume r child.fileid found_target))) where
-          abbrev seen_by : Climb → Bool → Effect
-          seen_by met may =
-              if is_same_entry r then same_told r
+          abbrev seen_by : Bool → Climb → Bool → Effect
+          seen_by one met may =
+              if one then same_told r
               else unless (climb_fault met)
               (if not may then Fails Exists else rename_told r (renamed_volume r child.fileid found_target))
 
-          passed : (a : Bool) (m : Climb) (d : Bool) → is_one_entry h ≡ a → held_above h child.fileid child.inode.kind ≡ m
+          passed : (a : Bool) (m : Climb) (d : Bool) → is_held child target ≡ a → held_above h child.fileid child.inode.kind ≡ m
               → target_may_go (logical_lens.of p) child target ≡ d
               → Right (if a then held_renamed h (logical_lens.of p)
               else unless_both (climb_fault m) (logical_lens.of p)
@@ -163,24 +166,26 @@ module _ (from to : List ℕ) (node : Affinity) (from_id : ℕ) (from_name : Lis
 
           there-right : Right (rename_by h (Some child) target) (rename_at r (Some (found_seen p child)) found_target)
           there-right =
-              subst (λ (m : Climb). Right (rename_by h (Some child) target)
-              (seen_by m (may_go (node_of p.stripes p.logical.directories child.fileid child.inode) found_target)))
+              subst (λ (a : Bool). Right (rename_by h (Some child) target) (seen_by a (met_above r child.fileid (found_seen p child).node)
+              (may_go (node_of p.stripes p.logical.directories p.logical.texts child.fileid child.inode) found_target))) (sym one_node)
+              (subst (λ (m : Climb). Right (rename_by h (Some child) target)
+              (seen_by (is_held child target) m (may_go (node_of p.stripes p.logical.directories p.logical.texts child.fileid child.inode) found_target)))
               (sym (met-seen p r h child.fileid child.inode refl refl refl refl))
-              (subst (λ (d : Bool). Right (rename_by h (Some child) target) (seen_by (held_above h child.fileid child.inode.kind) d)) (sym go)
-              (passed (is_one_entry h) (held_above h child.fileid child.inode.kind) (target_may_go (logical_lens.of p) child target) refl refl refl))
+              (subst (λ (d : Bool). Right (rename_by h (Some child) target) (seen_by (is_held child target) (held_above h child.fileid child.inode.kind) d)) (sym go)
+              (passed (is_held child target) (held_above h child.fileid child.inode.kind) (target_may_go (logical_lens.of p) child target) refl refl refl)))
 
         -- by whether there is a target
         target-right : Right (rename_by h (Some child) (node_under h.to)) (rename_at r (Some (found_seen p child)) (named_child r.to))
-        target-right = child-right p sound.well_formed to_id to_name moment ti tp ts here_to
+        target-right = child-right p sound.well_formed to_id to_name moment ti tp here_to
             (λ (o : Option HeldNode) (x : Option Found). Right (rename_by h (Some child) o) (rename_at r (Some (found_seen p child)) x))
-            (λ absent. there-right None None refl (λ one met may. moved-right (logical_lens.of p) None (free-none absent met)))
-            (λ target upon. there-right (Some target) (Some (found_seen p target)) (may-go-seen p child target)
+            (λ absent. there-right None None refl refl (λ one met may. moved-right (logical_lens.of p) None (free-none absent met)))
+            (λ target upon. there-right (Some target) (Some (found_seen p target)) refl (may-go-seen p child target)
             (λ one met may. moved-right (target_gone h.to (Some target)) (Some (found_seen p target))
-            (free-by p hands made sound from_id from_name to_id to_name moment fi fp fs here_from ti tp ts here_to child under target upon one
-            (clear met) target.inode.kind refl may)))
+            (free-by p hands made sound from_id from_name to_id to_name moment fi fp here_from ti tp here_to child under target upon one
+            (clear met) may)))
 
       child-there : Right (rename_by h (node_under h.from) (node_under h.to)) (rename_at r (named_child r.from) (named_child r.to))
-      child-there = child-right p sound.well_formed from_id from_name moment fi fp fs here_from
+      child-there = child-right p sound.well_formed from_id from_name moment fi fp here_from
           (λ (o : Option HeldNode) (x : Option Found). Right (rename_by h o (node_under h.to)) (rename_at r x (named_child r.to)))
           (λ absent. failure _) (λ child under. target-right child under)
 
@@ -192,18 +197,18 @@ module _ (from to : List ℕ) (node : Affinity) (from_id : ℕ) (from_name : Lis
       names-right : Right (held_rename h) (rename_in r)
       names-right = checked (name_fault from_name) _ _ (checked (name_fault to_name) _ _ (by-dots (is_dots from_name || is_dots to_name)))
 
-    here : (fileid : ℕ) (name : List ℕ) (inode : Inode) (parent subs : ℕ) → get p.logical.inodes.inodes fileid ≡ Some inode
-        → inode.kind ≡ DirectoryKind parent subs → IsDirectoryHere p fileid name moment inode parent subs
-    here fileid name inode parent subs there is = record {
+    here : (fileid : ℕ) (name : List ℕ) (inode : Inode) (parent : ℕ) → get p.logical.inodes.inodes fileid ≡ Some inode
+        → parent_in inode.kind ≡ Some parent → IsDirectoryHere p fileid name moment inode parent
+    here fileid name inode parent there says = record {
       there = there;
-      kind = is;
-      entered = entered-here p fileid name moment sound.well_formed inode parent subs there is;
+      says = says;
+      entered = entered-here p fileid name moment sound.well_formed inode parent there says;
     }
 
     renames-right : Right (rename_done p.number from_id from_name to_id to_name moment (logical_lens.of p)) (call.run (volume_of p))
-    renames-right = directory-right p from_id Right _ _ failure (λ fi fp fs there is.
-        directory-right p to_id Right _ _ failure (λ ti tp ts to_there to_is.
-        names-right fi fp fs (here from_id from_name fi fp fs there is) ti tp ts (here to_id to_name ti tp ts to_there to_is)))
+    renames-right = directory-right p from_id Right _ _ failure (λ fi fp there is.
+        directory-right p to_id Right _ _ failure (λ ti tp to_there to_is.
+        names-right fi fp (here from_id from_name fi fp there is) ti tp (here to_id to_name ti tp to_there to_is)))
 
   -- RENAME
   pub rename-is-done : (v : ℕ) (s : LogicalSet) → IsDone v call s (rename_done v from_id from_name to_id to_name moment s)
@@ -222,6 +227,18 @@ located-named volumes (Some named) l is = by (slice_get volumes named.volume) is
         let same : record { named = named; volume = volume } ≡ l = cc in
         ap (λ (x : Located). Some x.named) same
 
+-- and its volume is there
+located-volume : (volumes : List VolumeState) (o : Option Named) (l : Located) → located_by volumes o ≡ Some l
+    → slice_get volumes l.named.volume ≡ Some l.volume
+located-volume volumes None l is = absurd cc
+located-volume volumes (Some named) l is = by (slice_get volumes named.volume) refl is
+  where
+    by : (v : Option VolumeState) → slice_get volumes named.volume ≡ v → located_in named v ≡ Some l → slice_get volumes l.named.volume ≡ Some l.volume
+    by None e at = absurd cc
+    by (Some volume) e at =
+        let same : record { named = named; volume = volume } ≡ l = cc in
+        ap (λ (x : Located). slice_get volumes x.named.volume) (sym same) ∙ e ∙ ap (λ (x : Located). Some x.volume) same
+
 handle-read : (volumes : ℕ) (bytes : List ℕ) (named : Named) → handle_of volumes bytes ≡ Some named → named_read bytes ≡ named
 handle-read volumes bytes named is = by _ is
   where
@@ -232,27 +249,63 @@ handle-read volumes bytes named is = by _ is
 pub rename-starves : (v from_id to_id volumes : ℕ) (from from_name to to_name : List ℕ) (node : Affinity) (moment : Moment) (s : LogicalSet)
     (from_change to_change : Wcc)
     → handle_of volumes to ≡ Some (record { volume = v; fileid = to_id })
-    → ((from_id == to_id) && same_name from_name to_name) ≡ false
+    → are_one (fileid_found (entries_of s.own from_id) from_name) (fileid_found (entries_of s.own to_id) to_name) ≡ false
     → (rename_done v from_id from_name to_id to_name moment s).answer ≡ RenameDone from_change to_change
     → MayStarve v (rename_call from to node from_id from_name to_id to_name moment) s
 rename-starves v from_id to_id volumes from from_name to to_name node moment s from_change to_change names two is =
     may-starve 4 v (rename_call from to node from_id from_name to_id to_name moment) (λ w t. rename_done w from_id from_name to_id to_name moment t)
     (λ p. refl) refl
     (λ p hands count sound. (renames-right from to node from_id from_name to_id to_name moment p hands hands count sound (λ n. refl)).0) s
-    (λ p server has at. subst (λ (a : Answer). IsTrue (takes_memory server (Rename from from_name to to_name) a)) (sym is)
-    (by p server at (same_name from to) refl))
+    (λ p server numbered has at. subst (λ (a : Answer). IsTrue (takes_memory server (Rename from from_name to to_name) a)) (sym is)
+    (ap (λ (b : Bool). not b) (apart p server numbered has at)))
   where
-    by : (p : VolumeContents) (server : Server)
+    -- of names whose entries are these, or which have none as the serial server sees them
+    apart-by : (seen_from seen_to from_entry to_entry : Option Listed) → EntrySeen seen_from from_entry → EntrySeen seen_to to_entry
+        → are_one (option_map (λ (e : Listed). e.fileid) from_entry) (option_map (λ (e : Listed). e.fileid) to_entry) ≡ false
+        → name_one seen_from seen_to ≡ false
+    apart-by seen_from seen_to from_entry to_entry (NoEntryThere none) other differ = ap (λ (o : Option Listed). name_one o seen_to) none
+    apart-by seen_from seen_to from_entry to_entry (ThatEntry a) (NoEntryThere none) differ =
+        ap (λ (o : Option Listed). name_one seen_from o) none ∙ nothing seen_from
+      where
+        nothing : (o : Option Listed) → name_one o None ≡ false
+        nothing None = refl
+        nothing (Some e) = refl
+    apart-by seen_from seen_to from_entry to_entry (ThatEntry a) (ThatEntry b) differ = (λ j. name_one (a j) (b j)) ∙ both from_entry to_entry differ
+      where
+        both : (x y : Option Listed) → are_one (option_map (λ (e : Listed). e.fileid) x) (option_map (λ (e : Listed). e.fileid) y) ≡ false
+            → name_one x y ≡ false
+        both None y h = refl
+        both (Some x) None h = refl
+        both (Some x) (Some y) h = ne_eqb x.fileid y.fileid (λ (e : x.fileid ≡ y.fileid).
+            let t : (y.fileid == x.fileid) ≡ true = eq-eqb y.fileid x.fileid (sym e) in cc)
+
+    -- the other name is of the same volume, if its handle is good there
+    located-to : (p : VolumeContents) (server : Server) → p.number ≡ v
         → locate server from ≡ Some (record { named = record { volume = p.number; fileid = from_id }; volume = volume_of p })
-        → (b : Bool) → same_name from to ≡ b → not (b && same_name from_name to_name) ≡ true
-    by p server at false e = refl
-    by p server at true e =
-        let first = handle-read (length server.volumes) from _
-        (located-named server.volumes (handle_of (length server.volumes) from) _ at) in
-        let second = handle-read volumes to _ names in
-        let same : from_id ≡ to_id =
-        ap (λ (n : Named). n.fileid) (sym first) ∙ ap (λ (bytes : List ℕ). (named_read bytes).fileid) (same-is from to e)
-        ∙ ap (λ (n : Named). n.fileid) second in
-        let other : same_name from_name to_name ≡ false =
-        sym (ap (λ (b : Bool). b && same_name from_name to_name) (eq-eqb from_id to_id same)) ∙ two in
-        ap (λ (b : Bool). not b) other
+        → EntrySeen (entry_in (node_named (locate server to)) to_name) (find_name to_name (entries_of p.logical to_id).list)
+    located-to p server numbered at = by (handle_of (length server.volumes) to) refl
+      where
+        volume-there : slice_get server.volumes p.number ≡ Some (volume_of p)
+        volume-there = located-volume server.volumes (handle_of (length server.volumes) from) _ at
+
+        by : (o : Option Named) → handle_of (length server.volumes) to ≡ o
+            → EntrySeen (entry_in (node_named (located_by server.volumes o)) to_name) (find_name to_name (entries_of p.logical to_id).list)
+        by None e = NoEntryThere refl
+        by (Some named) e =
+            let same : named ≡ record { volume = v; fileid = to_id } = sym (handle-read (length server.volumes) to named e) ∙ handle-read volumes to _ names in
+            subst (λ (n : Named). EntrySeen (entry_in (node_named (located_by server.volumes (Some n))) to_name) (find_name to_name (entries_of p.logical to_id).list))
+            (sym same)
+            (subst (λ (o : Option VolumeState). EntrySeen (entry_in (node_named (located_in (record { volume = v; fileid = to_id }) o)) to_name)
+            (find_name to_name (entries_of p.logical to_id).list))
+            (sym (ap (slice_get server.volumes) (sym numbered) ∙ volume-there)) (entry-seen p to_id to_name))
+
+    apart : (p : VolumeContents) (server : Server) → p.number ≡ v → logical_lens.of p ≡ s
+        → locate server from ≡ Some (record { named = record { volume = p.number; fileid = from_id }; volume = volume_of p })
+        → name_one (entry_named server from from_name) (entry_named server to to_name) ≡ false
+    apart p server numbered has at =
+        apart-by (entry_named server from from_name) (entry_named server to to_name)
+        (find_name from_name (entries_of p.logical from_id).list) (find_name to_name (entries_of p.logical to_id).list)
+        (subst (λ (o : Option Located). EntrySeen (entry_in (node_named o) from_name) (find_name from_name (entries_of p.logical from_id).list)) (sym at)
+        (entry-seen p from_id from_name))
+        (located-to p server numbered at)
+        (ap (λ (t : LogicalSet). are_one (fileid_found (entries_of t.own from_id) from_name) (fileid_found (entries_of t.own to_id) to_name)) has ∙ two)

@@ -4,7 +4,7 @@ use Rattle.std.proofs.Common.{refl, sym, ap, ◌∙◌, subst, arith, ne_eqb, eq
 use Rattle.std.specs.Prelude.{if◌then◌else◌}
 use Rattle.std.specs.FinMap.{get, remove}
 use Rattle.nfs_model.specs.Types.{Moment, Listed}
-use Rattle.nfs_model.specs.Server.{Directory, used}
+use Rattle.nfs_model.specs.Server.{Directory, used, Node}
 use Rattle.nfs_model.specs.Names.{same_name, dropped_name}
 use Rattle.nfs_model.specs.Parts.{Hand}
 use Rattle.nfs_model.specs.Moves.{Emptied}
@@ -14,28 +14,31 @@ use Rattle.nfs_model.specs.Serial.Rename.{in_directory, is_empty_list, without_t
 use Rattle.nfs_model.specs.volume.Directories.{found}
 use Rattle.nfs_model.specs.volume.Inodes.{InodeKind, RegularFile, DirectoryKind, Inode}
 use Rattle.nfs_model.specs.volume.lemmas.Inodes.{inode-set-other}
-use Rattle.nfs_model.specs.volume.lemmas.Numbered.{get-remove_at}
+use Rattle.nfs_model.specs.volume.lemmas.Numbered.{get-remove_at, get-insert_at}
 use Rattle.filer_state.specs.state.Contents.{VolumeContents}
 use Rattle.filer_state.specs.state.Tree.{directory_or_empty, volume_of}
 use Rattle.filer_state.specs.state.Names.{parent_in, directory_above}
+use Rattle.filer_state.specs.state.Kinds.{IsFile}
 use Rattle.filer_state.specs.state.Partition.{parts_of}
 use Rattle.filer_state.specs.state.Sound.{IsSound}
 use Rattle.filer_state.specs.state.Lenses.{logical_lens}
 use Rattle.filer_state.specs.attributes.lemmas.Setattr.{emptied-none}
 use Rattle.filer_state.specs.names.Answers.{entries_of}
-use Rattle.filer_state.specs.nodes.Dropping.{Dropping}
+use Rattle.filer_state.specs.nodes.Dropping.{Dropping, node_dropped}
+use Rattle.filer_state.specs.nodes.Sizing.{file_sized}
 use Rattle.filer_state.specs.nodes.Laws.{LosesName, IsEmptyKind}
 use Rattle.filer_state.specs.nodes.lemmas.Sized.{sized_in}
 use Rattle.filer_state.specs.changes.Named.{HeldNaming, HeldNode}
-use Rattle.filer_state.specs.changes.Dropping.{dropping_of, emptying_of, child_emptied}
+use Rattle.filer_state.specs.changes.Dropping.{dropping_of, emptying_of, child_emptied, name_gone}
 use Rattle.filer_state.specs.changes.Renaming as renaming
-use Rattle.filer_state.specs.changes.Renaming.{target_dropped}
 use Rattle.filer_state.specs.changes.lemmas.Named.{naming_held, naming_seen, IsDirectoryHere, IsChildHere, found_seen}
 use Rattle.filer_state.specs.changes.lemmas.Gone.{sound-gone, volume-gone, parts-gone, used-gone}
-use Rattle.filer_state.specs.changes.lemmas.Remove as removing
 use Rattle.filer_state.specs.changes.lemmas.Renamed.{directory-seen, not-itself}
 use Rattle.filer_state.specs.changes.lemmas.Hanging.{changed-there, MayMove}
 use Rattle.filer_state.specs.changes.lemmas.Targets.{may-move}
+use Rattle.filer_state.specs.changes.lemmas.NamesGone.{IsGone, gone-all}
+use Rattle.nfs_model.specs.Serial.Links.{without_link, node_left}
+use Rattle.filer_state.specs.laws.lemmas.InodeKinds as kinds
 
 -- a volume without the target, if there is one: the node may move there
 pub record IsFree (p q : VolumeContents) (from to : HeldNaming) (child : HeldNode) (from_parent to_parent : ℕ) (to_seen : Naming)
@@ -47,10 +50,10 @@ pub record IsFree (p q : VolumeContents) (from to : HeldNaming) (child : HeldNod
 
 module _ (p : VolumeContents) (hands : List Hand) (made : ℕ) (sound : IsSound p hands made)
     (from_id : ℕ) (from_name : List ℕ) (to_id : ℕ) (to_name : List ℕ) (moment : Moment)
-    (fi : Inode) (fp fs : ℕ) (here_from : IsDirectoryHere p from_id from_name moment fi fp fs)
-    (ti : Inode) (tp ts : ℕ) (here_to : IsDirectoryHere p to_id to_name moment ti tp ts)
+    (fi : Inode) (fp : ℕ) (here_from : IsDirectoryHere p from_id from_name moment fi fp)
+    (ti : Inode) (tp : ℕ) (here_to : IsDirectoryHere p to_id to_name moment ti tp)
     (child : HeldNode) (under : IsChildHere p from_id from_name child) (target : HeldNode) (upon : IsChildHere p to_id to_name target)
-    (two : ((from_id == to_id) && same_name from_name to_name) ≡ false)
+    (two : (target.fileid == child.fileid) ≡ false)
     (clear : (k : ℕ) → (directory_above p.logical.inodes.inodes k to_id == child.fileid) ≡ false) where
   abbrev t : ℕ
   t = target.fileid
@@ -73,87 +76,17 @@ module _ (p : VolumeContents) (hands : List Hand) (made : ℕ) (sound : IsSound 
       let isnt = not-itself p sound.well_formed to_id to_name target upon here_to.entered in cc)
 
   -- the serial server takes it away in two steps
-  target-left : without_child to_seen t ≡ record (volume_of p) { nodes = without_target to_seen (Some (found_seen p target)) (volume_of p).nodes }
+  target-left : without_child to_seen (found_seen p target)
+      ≡ record (volume_of p) { nodes = without_target to_seen (Some (found_seen p target)) (volume_of p).nodes }
   target-left = λ j. record (volume_of p) {
-    nodes = sym (changed-there (in_directory (λ d. dropped_name d to_name moment)) to_id (remove (volume_of p).nodes t) (Directory to_seen.directory)
-        (get-remove_at (volume_of p).nodes t to_id ∙ ap (λ (b : Bool). if b then None else get (volume_of p).nodes to_id) not-to
-        ∙ directory-seen p to_id ti tp here_to.there (ap parent_in here_to.kind))) j;
+    nodes = sym (changed-there (in_directory (λ d. dropped_name d to_name moment)) to_id
+        (node_left (volume_of p).nodes t (without_link moment (found_seen p target).node)) (Directory to_seen.directory)
+        (stays (without_link moment (found_seen p target).node) ∙ directory-seen p to_id ti tp here_to.there here_to.says)) j;
   }
-
-  -- ---- a file
-
-  module _ (size filled : ℕ) (verifier : Option (List ℕ)) (is_file : target.inode.kind ≡ RegularFile size filled verifier) where
-    abbrev left : HeldNode
-    left = child_emptied target (logical_lens.of p)
-
-    abbrev d : Dropping
-    d = dropping_of to left
-
-    abbrev q : VolumeContents
-    q = sized_in (emptying_of target) p
-
-    file-not-from : (from_id == t) ≡ false
-    file-not-from = ne_eqb from_id t (λ (e : from_id ≡ t).
-        let same : Some fi ≡ Some target.inode = sym here_from.there ∙ ap (get p.logical.inodes.inodes) e ∙ upon.node in
-        let one : fi ≡ target.inode = cc in
-        let kinds : DirectoryKind fp fs ≡ RegularFile size filled verifier = sym here_from.kind ∙ ap (λ (i : Inode). i.kind) one ∙ is_file in
-        absurd cc)
-
-    sound-q : IsSound q hands made
-    sound-q = removing.sound-emptied p to_id to_name moment ti tp ts here_to target upon size filled verifier is_file hands made sound
-
-    loses-q : LosesName d q.logical.inodes q.logical.directories
-    loses-q = removing.loses p to_id to_name moment ti tp ts here_to target upon size filled verifier is_file hands made sound
-
-    file-free : Free (logical_lens.put (target_dropped to target (RegularFile size filled verifier)) p)
-    file-free = record {
-      sound = sound-gone q d loses-q tp ts here_to.kind hands hands made made (omega arith) (λ n. refl) sound-q;
-      volume = volume-gone q d loses-q tp ts here_to.kind hands hands made made (omega arith) (λ n. refl) sound-q
-          ∙ removing.seen-left p to_id to_name moment ti tp ts here_to target upon size filled verifier is_file hands made sound hands (λ n. refl)
-          ∙ target-left;
-      may = may-move p sound.well_formed from_id from_name to_id to_name moment fi fp fs here_from ti tp ts here_to child under target upon two
-          left.inode q loses-q sound-q.well_formed.logical.named (λ x ne. inode-set-other p.logical.inodes t left.inode x ne) (λ x. refl)
-          file-not-from clear;
-      emptied = removing.emptied p to_id to_name moment ti tp ts here_to target upon size filled verifier is_file hands made sound hands (λ n. refl);
-    }
-
-  -- ---- a directory
-
-  module _ (up below : ℕ) (is_directory : target.inode.kind ≡ DirectoryKind up below) (none : (entries_of p.logical t).list ≡ []) where
-    abbrev e : Dropping
-    e = dropping_of to target
-
-    loses : LosesName e p.logical.inodes p.logical.directories
-    loses = record {
-      there = here_to.there;
-      entered = here_to.entered;
-      entry = upon.entry;
-      found_there = upon.found_there;
-      is = upon.is;
-      node = upon.node;
-      kind = subst IsEmptyKind (sym is_directory) tt;
-      empty = λ x h. ap (λ o. (directory_or_empty o).list) (sym h) ∙ none;
-    }
-
-    -- the other directory isn't empty
-    directory-not-from : (from_id == t) ≡ false
-    directory-not-from = ne_eqb from_id t (λ (h : from_id ≡ t).
-        let list : (entries_of p.logical from_id).list ≡ [] = ap (λ (x : ℕ). (entries_of p.logical x).list) h ∙ none in
-        let nothing : Some under.entry ≡ None = sym under.found_there ∙ ap (λ (l : List Listed). found (record { next = 0; list = l }) from_name) list in
-        absurd cc)
-
-    directory-free : Free (logical_lens.put (target_dropped to target (DirectoryKind up below)) p)
-    directory-free =
-        let parts = parts-gone p e loses tp ts here_to.kind hands hands made made (omega arith) (λ n. refl) sound in
-        let same = used-gone p e loses tp ts here_to.kind hands hands made made (omega arith) (λ n. refl) sound in
-        record {
-          sound = sound-gone p e loses tp ts here_to.kind hands hands made made (omega arith) (λ n. refl) sound;
-          volume = volume-gone p e loses tp ts here_to.kind hands hands made made (omega arith) (λ n. refl) sound ∙ target-left;
-          may = may-move p sound.well_formed from_id from_name to_id to_name moment fi fp fs here_from ti tp ts here_to child under target upon two
-              target.inode p loses sound.well_formed.logical.named (λ x ne. refl) (λ x. refl) directory-not-from clear;
-          emptied = emptied-none (parts_of p) (parts_of (logical_lens.put (target_dropped to target (DirectoryKind up below)) p)) _ (omega (arith, same))
-              (ap (λ x. x.files) parts) (ap (λ x. x.dead) parts) (ap (λ x. x.stock) parts) (ap (λ x. x.free) parts);
-        }
+    where
+      stays : (o : Option Node) → get (node_left (volume_of p).nodes t o) to_id ≡ get (volume_of p).nodes to_id
+      stays None = get-remove_at (volume_of p).nodes t to_id ∙ ap (λ (b : Bool). if b then None else get (volume_of p).nodes to_id) not-to
+      stays (Some node) = get-insert_at (volume_of p).nodes t node to_id ∙ ap (λ (b : Bool). if b then Some node else get (volume_of p).nodes to_id) not-to
 
   -- ---- by the kinds of both
 
@@ -163,10 +96,33 @@ module _ (p : VolumeContents) (hands : List Hand) (made : ℕ) (sound : IsSound 
 
   none-there : (moved : InodeKind) (up below : ℕ) → renaming.may_replace (logical_lens.of p) moved t (DirectoryKind up below) ≡ true
       → (entries_of p.logical t).list ≡ []
-  none-there (RegularFile size filled verifier) up below h = absurd cc
   none-there (DirectoryKind old subs) up below h = empty-is (entries_of p.logical t).list h
+  none-there moved up below h = absurd cc
 
-  pub free-by : (kind : InodeKind) → target.inode.kind ≡ kind → renaming.may_replace (logical_lens.of p) child.inode.kind t kind ≡ true
-      → Free (logical_lens.put (target_dropped to target kind) p)
-  free-by (RegularFile size filled verifier) is may = file-free size filled verifier is
-  free-by (DirectoryKind up below) is may = directory-free up below is (none-there child.inode.kind up below may)
+  module _ (may : renaming.may_replace (logical_lens.of p) child.inode.kind t target.inode.kind ≡ true) where
+    -- a directory that is to go is empty
+    empty : (up below : ℕ) → target.inode.kind ≡ DirectoryKind up below → (entries_of p.logical t).list ≡ []
+    empty up below is =
+        none-there child.inode.kind up below (ap (renaming.may_replace (logical_lens.of p) child.inode.kind t) (sym is) ∙ may)
+
+    -- the other directory isn't what goes: it isn't empty
+    not-from : (from_id == t) ≡ false
+    not-from = ne_eqb from_id t (λ (h : from_id ≡ t).
+        let same : Some fi ≡ Some target.inode = sym here_from.there ∙ ap (get p.logical.inodes.inodes) h ∙ upon.node in
+        let one : fi ≡ target.inode = cc in
+        let is = kinds.directory-is target.inode.kind fp (ap (λ (i : Inode). parent_in i.kind) (sym one) ∙ here_from.says) in
+        let list : (entries_of p.logical from_id).list ≡ [] = ap (λ (x : ℕ). (entries_of p.logical x).list) h ∙ empty fp is.0 is.1 in
+        let nothing : Some under.entry ≡ None = sym under.found_there ∙ ap (λ (l : List Listed). found (record { next = 0; list = l }) from_name) list in
+        absurd cc)
+
+    target-gone : IsGone p to_id to_name moment ti tp here_to target upon hands hands made made (omega arith) sound (λ n. refl) (name_gone to target).set
+    target-gone = gone-all p to_id to_name moment ti tp here_to target upon hands hands made made (omega arith) sound (λ n. refl) empty
+
+    pub free-by : Free (logical_lens.put (name_gone to target).set p)
+    free-by = record {
+      sound = target-gone.sound;
+      volume = target-gone.volume ∙ target-left;
+      may = may-move p sound.well_formed from_id from_name to_id to_name moment fi fp here_from ti tp here_to child under target upon two
+          (name_gone to target).set hands hands made made (omega arith) sound (λ n. refl) target-gone not-from clear;
+      emptied = target-gone.emptied;
+    }

@@ -3,7 +3,7 @@ use Rattle.std.proofs.Common.{◌≡◌, ℕ, ◌+◌, ◌-◌, Bool, true, fals
 use Rattle.std.specs.Prelude.{if◌then◌else◌}
 use Rattle.std.specs.Option.{option_map}
 use Rattle.std.specs.FinMap.{get}
-use Rattle.nfs_model.specs.Types.{Moment, Caller, Regular, SetAttributes, Status, SetattrDone}
+use Rattle.nfs_model.specs.Types.{Moment, Caller, SetAttributes, Status, SetattrDone}
 use Rattle.nfs_model.specs.Tree.{Affinity}
 use Rattle.nfs_model.specs.Server.{Attributes, Node, used}
 use Rattle.nfs_model.specs.Shown.{before_of}
@@ -12,9 +12,10 @@ use Rattle.nfs_model.specs.Serial.Rights.{protected}
 use Rattle.nfs_model.specs.Serial.Setattr.{set_node, mode_taken, set_taken, setattr_fault, replaced}
 use Rattle.nfs_model.specs.Moves.{Emptied}
 use Rattle.nfs_model.specs.Parts.{Hand}
-use Rattle.nfs_model.specs.volume.Inodes.{InodeKind, RegularFile, DirectoryKind, Inode}
+use Rattle.nfs_model.specs.volume.Inodes.{InodeKind, DirectoryKind, Inode}
 use Rattle.filer_state.specs.state.Contents.{VolumeContents}
 use Rattle.filer_state.specs.state.Tree.{file_touch, node_by, node_of, volume_of}
+use Rattle.filer_state.specs.state.Protected.{kind_shown}
 use Rattle.filer_state.specs.state.Partition.{parts_of}
 use Rattle.filer_state.specs.state.Sound.{IsSound}
 use Rattle.filer_state.specs.state.Lenses.{LogicalSet, logical_lens}
@@ -39,24 +40,24 @@ unchanged p = emptied-none (parts_of p) (parts_of p) (used (volume_of p) - used 
 
 module _ (caller : Caller) (set : SetAttributes) where
   -- by what a node is, and by what its inode is of
-  pub taken-is : (p : VolumeContents) (f : ℕ) (a : Attributes) (kind : InodeKind)
-      → set_taken caller set (node_by p.stripes (get p.logical.directories f) f a kind) ≡ taken_by caller set a kind
-  taken-is p f a (RegularFile size filled verifier) = refl
-  taken-is p f a (DirectoryKind parent subdirectories) = refl
+  pub taken-is : (p : VolumeContents) (f : ℕ) (a : Attributes) (names : ℕ) (kind : InodeKind)
+      → set_taken caller set (node_by p.stripes (get p.logical.directories f) (get p.logical.texts f) f a names kind) ≡ taken_by caller set a kind
+  taken-is p f a names (DirectoryKind parent subdirectories) = refl
+  taken-is p f a names kind = refl
 
   -- the mode isn't looked at
   fault-taken : (guard : Option Moment) (largest : ℕ) (touch : Option Moment) (a : Attributes) (kind : InodeKind)
       → set_fault largest (taken_by caller set a kind) guard (attributes_now touch a kind).ctime kind
       ≡ set_fault largest set guard (attributes_now touch a kind).ctime kind
   fault-taken guard largest touch a (DirectoryKind parent subdirectories) = refl
-  fault-taken guard largest touch a (RegularFile size filled verifier) = by caller.checked
+  fault-taken guard largest touch a kind = by kind caller.checked
     where
-      by : (b : Bool)
-          → set_fault largest (if b then record set { mode = mode_taken caller.credential set (protected Regular a) set.mode } else set) guard
-          (attributes_now touch a (RegularFile size filled verifier)).ctime (RegularFile size filled verifier)
-          ≡ set_fault largest set guard (attributes_now touch a (RegularFile size filled verifier)).ctime (RegularFile size filled verifier)
-      by true = refl
-      by false = refl
+      by : (k : InodeKind) (b : Bool)
+          → set_fault largest (if b then record set { mode = mode_taken caller.credential set (protected (kind_shown k) a) set.mode } else set) guard
+          (attributes_now touch a k).ctime k
+          ≡ set_fault largest set guard (attributes_now touch a k).ctime k
+      by k true = refl
+      by k false = refl
 
 module _ (f : ℕ) (handle : List ℕ) (node : Affinity) (set : SetAttributes) (guard : Option Moment)
     (caller : Caller) (moment : Moment) where
@@ -68,7 +69,7 @@ module _ (f : ℕ) (handle : List ℕ) (node : Affinity) (set : SetAttributes) (
     Right done effect = RightAs call p hands' (made + 1) done effect
 
     abbrev was : Inode → Node
-    was inode = node_of p.stripes p.logical.directories f inode
+    was inode = node_of p.stripes p.logical.directories p.logical.texts f inode
 
     -- what is asked of a node, and of an inode
     abbrev asked : Node → Effect
@@ -124,7 +125,7 @@ module _ (f : ℕ) (handle : List ℕ) (node : Affinity) (set : SetAttributes) (
           (same_fault ∙ sym (fault-is p f set old guard))
           (subst (λ (t : SetAttributes). Right (unless_fault fault (logical_lens.of p) (node_replaced p.number f old (logical_lens.of p) new))
           (unless fault (replaced (volume_of p) f (was old) (set_node t moment (was old)))))
-          (sym (taken-is caller set p f old.attributes old.kind)) (checked fault refl)))
+          (sym (taken-is caller set p f old.attributes old.names old.kind)) (checked fault refl)))
 
     by-inode : Right (held_setattr p.number f set guard caller moment (logical_lens.of p)) (call.run (volume_of p))
     by-inode =
@@ -132,7 +133,7 @@ module _ (f : ℕ) (handle : List ℕ) (node : Affinity) (set : SetAttributes) (
         (by (get p.logical.inodes.inodes f) refl)
       where
         by : (o : Option Inode) → get p.logical.inodes.inodes f ≡ o
-            → Right (on_inode o (logical_lens.of p) held) (on_node (option_map (node_of p.stripes p.logical.directories f) o) asked)
+            → Right (on_inode o (logical_lens.of p) held) (on_node (option_map (node_of p.stripes p.logical.directories p.logical.texts f) o) asked)
         by None e = failure _
         by (Some old) e = at-inode old e
 

@@ -8,18 +8,19 @@ use Rattle.std.specs.Option.{option_map}
 use Rattle.std.specs.FinMap.{get, insert}
 use Rattle.std.specs.FinSet.{from_list}
 use Rattle.nfs_model.specs.Types.{Moment, SetAttributes, NotSynchronous, Invalid, TooBig}
-use Rattle.nfs_model.specs.Server.{Attributes, Node, File, Directory, VolumeState, used}
+use Rattle.nfs_model.specs.Server.{Attributes, Node, File, VolumeState, used}
 use Rattle.nfs_model.specs.Shown.{shown, times, settled}
 use Rattle.nfs_model.specs.Serial.Rights.{ownership_of}
 use Rattle.nfs_model.specs.Serial.Setattr.{is_stale_guard, has_bad_time, is_past, resized, set_attributes, set_node, setattr_fault, with_node}
 use Rattle.nfs_model.specs.Moves.{Emptied}
 use Rattle.nfs_model.specs.Parts.{Hand}
-use Rattle.nfs_model.specs.volume.Inodes.{InodeKind, RegularFile, DirectoryKind, Inode}
+use Rattle.nfs_model.specs.volume.Inodes.{InodeKind, RegularFile, Inode}
 use Rattle.nfs_model.specs.volume.Stripes.{OfFile, StripeValue, touch_of}
 use Rattle.nfs_model.specs.volume.lemmas.Inodes.{inode-set-there, inode-set-other, next-set, used-set-same}
 use Rattle.nfs_model.specs.volume.lemmas.Numbered.{get-insert_at, itself}
 use Rattle.filer_state.specs.state.Contents.{VolumeContents}
 use Rattle.filer_state.specs.state.Tree.{file_touch, later, node_by, node_of, volume_of}
+use Rattle.filer_state.specs.state.Kinds.{IsFile}
 use Rattle.filer_state.specs.state.WellFormed.{WellFormed}
 use Rattle.filer_state.specs.state.Partition.{parts_of, numbers_in, all_numbers}
 use Rattle.filer_state.specs.state.Sound.{IsSound}
@@ -41,25 +42,25 @@ use Rattle.filer_state.specs.changes.Attributes.{NodeSet, sizing_of, node_sized,
 
 module _ (p : VolumeContents) (f : ℕ) (set : SetAttributes) (old : Inode) where
   abbrev was : Node
-  was = node_of p.stripes p.logical.directories f old
+  was = node_of p.stripes p.logical.directories p.logical.texts f old
 
   -- the attributes that hold
   times-now : times was ≡ attributes_now (file_touch p.stripes f) old.attributes old.kind
   times-now = by old.kind
     where
-      by : (kind : InodeKind) → times (node_by p.stripes (get p.logical.directories f) f old.attributes kind)
+      by : (kind : InodeKind) → times (node_by p.stripes (get p.logical.directories f) (get p.logical.texts f) f old.attributes old.names kind)
           ≡ attributes_now (file_touch p.stripes f) old.attributes kind
       by (RegularFile size filled verifier) = refl
-      by (DirectoryKind parent subdirectories) = refl
+      by kind = refl
 
   -- the first check that fails is the serial server's
   pub fault-is : (guard : Option Moment) → setattr_fault (volume_of p) set guard was ≡ node_fault f set guard old (logical_lens.of p)
   fault-is guard = by old.kind
     where
-      by : (kind : InodeKind) → setattr_fault (volume_of p) set guard (node_by p.stripes (get p.logical.directories f) f old.attributes kind)
+      by : (kind : InodeKind) → setattr_fault (volume_of p) set guard (node_by p.stripes (get p.logical.directories f) (get p.logical.texts f) f old.attributes old.names kind)
           ≡ set_fault p.logical.largest set guard (attributes_now (file_touch p.stripes f) old.attributes kind).ctime kind
       by (RegularFile size filled verifier) = refl
-      by (DirectoryKind parent subdirectories) = refl
+      by kind = refl
 
 -- where no check fails
 all-pass : (a b c d : Bool)
@@ -76,7 +77,7 @@ pub record MaySize (largest size : ℕ) (kind : InodeKind) : Type 0 where
   pub old_size : ℕ
   pub filled : ℕ
   pub verifier : Option (List ℕ)
-  pub is_file : kind ≡ RegularFile old_size filled verifier
+  pub is_file : IsFile kind old_size filled verifier
   pub small : size ≤ largest
 
 may-size : (largest size : ℕ) (set : SetAttributes) (guard : Option Moment) (ctime : Moment) (kind : InodeKind)
@@ -90,7 +91,7 @@ may-size largest size set guard ctime kind asked passes =
 
     by : (k : InodeKind) → is_directory_sized k (Some size) ≡ false → nat_lt largest size ≡ false → MaySize largest size k
     by (RegularFile s n verifier) a b = record { old_size = s; filled = n; verifier = verifier; is_file = refl; small = fits b }
-    by (DirectoryKind parent subdirectories) a b = absurd cc
+    by k a b = absurd cc
 
 -- ---- a node set
 
@@ -111,9 +112,9 @@ pub node-shows : (after : VolumeContents) (volume : VolumeState) (f : ℕ) (node
     → get volume.nodes f ≡ Some node → get after.logical.inodes.inodes f ≡ Some next
     → shown volume f node ≡ shown_inode after.number f next (file_touch after.stripes f)
 node-shows after volume f node next well is has there =
-    let found : Some (node_of after.stripes after.logical.directories f next) ≡ Some node =
-    sym (node-at after f ∙ ap (option_map (node_of after.stripes after.logical.directories f)) there) ∙ ap (λ v. get v.nodes f) is ∙ has in
-    let same : node_of after.stripes after.logical.directories f next ≡ node = cc in
+    let found : Some (node_of after.stripes after.logical.directories after.logical.texts f next) ≡ Some node =
+    sym (node-at after f ∙ ap (option_map (node_of after.stripes after.logical.directories after.logical.texts f)) there) ∙ ap (λ v. get v.nodes f) is ∙ has in
+    let same : node_of after.stripes after.logical.directories after.logical.texts f next ≡ node = cc in
     (λ j. shown (sym is j) f (sym same j)) ∙ node-shown after well f next there
 
 -- one that was set is found
@@ -123,7 +124,7 @@ set-there volume f node = get-insert_at volume.nodes f node f ∙ ap (λ (b : Bo
 module _ (p : VolumeContents) (f : ℕ) (set : SetAttributes) (moment : Moment) (old : Inode) (there : get p.logical.inodes.inodes f ≡ Some old)
     (hands hands' : List Hand) (made : ℕ) (weigh : WeighAlike p.number hands hands') (sound : IsSound p hands made) where
   abbrev node : Node
-  node = set_node set moment (node_of p.stripes p.logical.directories f old)
+  node = set_node set moment (node_of p.stripes p.logical.directories p.logical.texts f old)
 
   -- ---- without a size
 
@@ -134,26 +135,27 @@ module _ (p : VolumeContents) (f : ℕ) (set : SetAttributes) (moment : Moment) 
     abbrev after : VolumeContents
     after = set_in f next p
 
-    node-is : with_attributes next.attributes (node_of p.stripes p.logical.directories f old) ≡ node
+    node-is : with_attributes next.attributes (node_of p.stripes p.logical.directories p.logical.texts f old) ≡ node
     node-is =
-        ap (λ a. with_attributes (set_attributes set moment a) (node_of p.stripes p.logical.directories f old)) (sym (times-now p f set old))
-        ∙ by (node_of p.stripes p.logical.directories f old)
+        ap (λ a. with_attributes (set_attributes set moment a) (node_of p.stripes p.logical.directories p.logical.texts f old)) (sym (times-now p f set old))
+        ∙ by (node_of p.stripes p.logical.directories p.logical.texts f old)
       where
         by : (n : Node) → with_attributes (set_attributes set moment (times n)) n ≡ set_node set moment n
         by (File g) = ap (λ o. File (record (resized o (settled g)) { attributes = set_attributes set moment (settled g).attributes })) (sym unsized)
-        by (Directory d) = refl
+        by n = refl
 
     numbers-stay : (stripes : List StripeValue) → all_numbers (stripes_settled f (ownership_of next.attributes) stripes) ≡ all_numbers stripes
     numbers-stay [] = refl
     numbers-stay (s ∷ stripes) = ap (λ ns. numbers_in s ++ ns) (numbers-stay stripes)
 
     sound-after : IsSound after hands' (made + 1)
-    sound-after = sound-set p f old next there refl hands hands' made weigh sound
+    sound-after = sound-set p f old next there (record { kind = refl; names = refl }) hands hands' made weigh sound
 
     volume-after : volume_of after ≡ with_node (volume_of p) f node
     volume-after = λ j. record (volume_of p) {
       next = next-set p.logical.inodes f next j;
-      nodes = (nodes-set p.stripes p.logical.directories f (ownership_of next.attributes) p.logical.inodes old next there refl
+      nodes = (nodes-set p.stripes p.logical.directories p.logical.texts f (ownership_of next.attributes) p.logical.inodes old next there
+          (record { kind = refl; names = refl })
           ∙ ap (λ x. insert (volume_of p).nodes f x) node-is) j;
     }
 
@@ -196,7 +198,7 @@ module _ (p : VolumeContents) (f : ℕ) (set : SetAttributes) (moment : Moment) 
         })) (sym sized)
         ∙ ap (set_node set moment) (sym was)
       where
-        was : node_of p.stripes p.logical.directories f old ≡ File (file_seen p m may.old_size may.verifier)
+        was : node_of p.stripes p.logical.directories p.logical.texts f old ≡ File (file_seen p m may.old_size may.verifier)
         was = was-file p m sound.well_formed there may.old_size may.filled may.verifier may.is_file may.small
 
     touch-cut : (stripes : List StripeValue) → file_touch (map (stripe_sized f size (ownership_of m.attributes)) stripes) f ≡ None

@@ -10,7 +10,7 @@ use Rattle.nfs_model.specs.Shown.{shown}
 use Rattle.nfs_model.specs.Locate.{Effect, Fails, on_directory}
 use Rattle.nfs_model.specs.Serial.Rename as renames
 use Rattle.nfs_model.specs.Serial.Rename.{Renaming, Climb, PastIt, ToIt, on_parent, parent_above, climb, met_above, may_go, node_or}
-use Rattle.nfs_model.specs.volume.Inodes.{InodeKind, RegularFile, DirectoryKind, Inode}
+use Rattle.nfs_model.specs.volume.Inodes.{InodeKind, DirectoryKind, Inode}
 use Rattle.filer_state.specs.state.Contents.{VolumeContents}
 use Rattle.filer_state.specs.state.Tree.{file_touch, node_by, node_of, volume_of}
 use Rattle.filer_state.specs.state.Names.{InodeMap, root, parent_in, parent_directory, parent_or, is_directory, directory_above}
@@ -33,7 +33,7 @@ use Rattle.filer_state.specs.changes.lemmas.Renamed.{child-parent, not-root}
 -- what holds of failures, and of what is run on each directory that is there, holds of both
 pub directory-right : (p : VolumeContents) (fileid : ℕ) (Right : LogicalAnswer → Effect → Type 0) (run : Inode → LogicalAnswer)
     (model : DirectoryNode → Effect) → ((status : Status) → Right (fails_both status (logical_lens.of p)) (Fails status))
-    → ((inode : Inode) (parent subs : ℕ) → get p.logical.inodes.inodes fileid ≡ Some inode → inode.kind ≡ DirectoryKind parent subs
+    → ((inode : Inode) (parent : ℕ) → get p.logical.inodes.inodes fileid ≡ Some inode → parent_in inode.kind ≡ Some parent
     → Right (run inode) (model (directory_node inode parent (entries_of p.logical fileid))))
     → Right (on_directory_inode (get p.logical.inodes.inodes fileid) (logical_lens.of p) run) (on_directory (get (volume_of p).nodes fileid) model)
 directory-right p fileid Right run model failure goes =
@@ -42,12 +42,12 @@ directory-right p fileid Right run model failure goes =
   where
     kinds : (inode : Inode) → get p.logical.inodes.inodes fileid ≡ Some inode → (kind : InodeKind) → inode.kind ≡ kind
         → Right (if_directory kind (logical_lens.of p) (run inode))
-        (on_directory (Some (node_by p.stripes (get p.logical.directories fileid) fileid inode.attributes kind)) model)
-    kinds inode there (RegularFile size filled verifier) is = failure _
-    kinds inode there (DirectoryKind parent subs) is = goes inode parent subs there is
+        (on_directory (Some (node_by p.stripes (get p.logical.directories fileid) (get p.logical.texts fileid) fileid inode.attributes inode.names kind)) model)
+    kinds inode there (DirectoryKind parent subs) is = goes inode parent there (ap parent_in is)
+    kinds inode there kind is = failure _
 
     by : (o : Option Inode) → get p.logical.inodes.inodes fileid ≡ o
-        → Right (on_directory_inode o (logical_lens.of p) run) (on_directory (option_map (node_of p.stripes p.logical.directories fileid) o) model)
+        → Right (on_directory_inode o (logical_lens.of p) run) (on_directory (option_map (node_of p.stripes p.logical.directories p.logical.texts fileid) o) model)
     by None e = failure _
     by (Some inode) e = kinds inode e inode.kind refl
 
@@ -63,10 +63,10 @@ directory-told z well n volume d is entered =
     as_directory : is_directory (get z.logical.inodes.inodes n.fileid) ≡ true
     as_directory = sym (well.logical.named.as_directories n.fileid) ∙ entered
 
-    kinds : (inode : Inode) (kind : InodeKind) → inode.kind ≡ kind → is_some (parent_in kind) ≡ true
+    parents : (inode : Inode) (o : Option ℕ) → parent_in inode.kind ≡ o → is_some o ≡ true
         → shown_inode z.number n.fileid inode (file_touch z.stripes n.fileid) ≡ shown_inode z.number n.fileid inode None
-    kinds inode (RegularFile size filled verifier) is some = absurd cc
-    kinds inode (DirectoryKind parent subs) is some = same-shown z.number n.fileid inode parent subs is (file_touch z.stripes n.fileid)
+    parents inode None is some = absurd cc
+    parents inode (Some parent) is some = same-shown z.number n.fileid inode parent is (file_touch z.stripes n.fileid)
 
     by : (o : Option Inode) → get z.logical.inodes.inodes n.fileid ≡ o
         → shown (volume_of z) n.fileid (node_or (get (volume_of z).nodes n.fileid) (Directory d))
@@ -74,9 +74,9 @@ directory-told z well n volume d is entered =
     by None e = let none = ap is_directory e in let some = as_directory in absurd cc
     by (Some inode) e =
         ap (λ (o : Option Node). shown (volume_of z) n.fileid (node_or o (Directory d)))
-        (node-at z n.fileid ∙ ap (option_map (node_of z.stripes z.logical.directories n.fileid)) e)
+        (node-at z n.fileid ∙ ap (option_map (node_of z.stripes z.logical.directories z.logical.texts n.fileid)) e)
         ∙ node-shown z well n.fileid inode e
-        ∙ kinds inode inode.kind refl (sym (ap is_directory e) ∙ as_directory)
+        ∙ parents inode (parent_in inode.kind) refl (sym (ap is_directory e) ∙ as_directory)
         ∙ ap (λ (o : Option Inode). shown_inode z.number n.fileid (inode_or o n.inode) None) (sym e)
 
 -- ---- a directory below itself
@@ -85,14 +85,14 @@ module _ (p : VolumeContents) where
   above-seen : (q : ℕ) → parent_above q (get (volume_of p).nodes q) ≡ above q (parent_directory (get p.logical.inodes.inodes q))
   above-seen q = ap (parent_above q) (node-at p q) ∙ by (get p.logical.inodes.inodes q)
     where
-      kinds : (a : Attributes) (kind : InodeKind)
-          → parent_above q (Some (node_by p.stripes (get p.logical.directories q) q a kind)) ≡ above q (parent_in kind)
-      kinds a (RegularFile size filled verifier) = refl
-      kinds a (DirectoryKind parent subs) = refl
+      kinds : (a : Attributes) (names : ℕ) (kind : InodeKind)
+          → parent_above q (Some (node_by p.stripes (get p.logical.directories q) (get p.logical.texts q) q a names kind)) ≡ above q (parent_in kind)
+      kinds a names (DirectoryKind parent subs) = refl
+      kinds a names kind = refl
 
-      by : (o : Option Inode) → parent_above q (option_map (node_of p.stripes p.logical.directories q) o) ≡ above q (parent_directory o)
+      by : (o : Option Inode) → parent_above q (option_map (node_of p.stripes p.logical.directories p.logical.texts q) o) ≡ above q (parent_directory o)
       by None = refl
-      by (Some inode) = kinds inode.attributes inode.kind
+      by (Some inode) = kinds inode.attributes inode.names inode.kind
 
   on-same : (o : Option ℕ) (f g : ℕ → Climb) → ((u : ℕ) → f u ≡ g u) → on_parent o f ≡ on_parent o g
   on-same None f g same = refl
@@ -108,30 +108,30 @@ module _ (p : VolumeContents) where
 
   pub met-seen : (r : Renaming) (h : HeldRenaming) (c : ℕ) (inode : Inode) → r.from.volume ≡ volume_of p → h.from.set ≡ logical_lens.of p
       → r.from.fileid ≡ h.from.fileid → r.to.fileid ≡ h.to.fileid
-      → met_above r c (node_of p.stripes p.logical.directories c inode) ≡ held_above h c inode.kind
+      → met_above r c (node_of p.stripes p.logical.directories p.logical.texts c inode) ≡ held_above h c inode.kind
   met-seen r h c inode volume set from to = by inode.kind
     where
-      by : (kind : InodeKind) → met_above r c (node_by p.stripes (get p.logical.directories c) c inode.attributes kind) ≡ held_above h c kind
-      by (RegularFile size filled verifier) = refl
+      by : (kind : InodeKind) → met_above r c (node_by p.stripes (get p.logical.directories c) (get p.logical.texts c) c inode.attributes inode.names kind) ≡ held_above h c kind
       by (DirectoryKind parent subs) =
           (λ j. if from j == to j then PastIt else climb (volume j).most_steps (volume j) c (to j))
           ∙ ap (λ (m : Climb). if h.from.fileid == h.to.fileid then PastIt else m) (climb-seen p.logical.most_steps c h.to.fileid
           ∙ (λ j. climbs (sym set j).own.most_steps (sym set j).own.inodes.inodes c h.to.fileid))
+      by kind = refl
 
   -- the target may go
   pub may-go-seen : (child : HeldNode) (target : HeldNode)
-      → may_go (node_of p.stripes p.logical.directories child.fileid child.inode) (Some (found_seen p target))
+      → may_go (node_of p.stripes p.logical.directories p.logical.texts child.fileid child.inode) (Some (found_seen p target))
       ≡ target_may_go (logical_lens.of p) child (Some target)
   may-go-seen child target = by child.inode.kind target.inode.kind
     where
       by : (k l : InodeKind)
-          → renames.may_replace (node_by p.stripes (get p.logical.directories child.fileid) child.fileid child.inode.attributes k)
-          (node_by p.stripes (get p.logical.directories target.fileid) target.fileid target.inode.attributes l)
+          → renames.may_replace (node_by p.stripes (get p.logical.directories child.fileid) (get p.logical.texts child.fileid) child.fileid child.inode.attributes child.inode.names k)
+          (node_by p.stripes (get p.logical.directories target.fileid) (get p.logical.texts target.fileid) target.fileid target.inode.attributes target.inode.names l)
           ≡ held.may_replace (logical_lens.of p) k target.fileid l
-      by (RegularFile size filled verifier) (RegularFile size' filled' verifier') = refl
-      by (RegularFile size filled verifier) (DirectoryKind parent subs) = refl
-      by (DirectoryKind parent subs) (RegularFile size filled verifier) = refl
       by (DirectoryKind parent subs) (DirectoryKind parent' subs') = refl
+      by (DirectoryKind parent subs) l = refl
+      by k (DirectoryKind parent subs) = refl
+      by k l = refl
 
 -- ---- a node is above no directory that isn't below it
 
@@ -197,5 +197,5 @@ module _ (p : VolumeContents) (well : WellFormed p) (from_id : ℕ) (from_name :
 
       by : (kind : InodeKind) → child.inode.kind ≡ kind → held_above h child.fileid kind ≡ PastIt
           → (k : ℕ) → (directory_above inodes k h.to.fileid == child.fileid) ≡ false
-      by (RegularFile size filled verifier) is past = file-clear (ap parent_in is)
       by (DirectoryKind parent subs) is past = kept parent (ap parent_in is) (h.from.fileid == h.to.fileid) refl past
+      by kind is past = file-clear (ap parent_in is)

@@ -13,7 +13,7 @@ use Rattle.nfs_model.specs.Server.{Node, filled_in, blocks_of, used}
 use Rattle.nfs_model.specs.Parts as parts
 use Rattle.nfs_model.specs.Parts.{Hand, one_if, times_listed}
 use Rattle.depot_rule.specs.Sums.{total}
-use Rattle.nfs_model.specs.volume.Inodes.{InodeKind, RegularFile, DirectoryKind, Inode, filled_blocks, blocks_filled}
+use Rattle.nfs_model.specs.volume.Inodes.{InodeKind, RegularFile, Inode, filled_blocks, blocks_filled}
 use Rattle.nfs_model.specs.volume.Stripes.{FileBlock, Block, StripeValue}
 use Rattle.nfs_model.specs.volume.Ranges.{RangeValue}
 use Rattle.filer_state.specs.state.Contents.{VolumeContents}
@@ -110,18 +110,18 @@ blocks-total g (e ∷ es) = let others = blocks-total g es in omega arith
 module _ (p : VolumeContents) (well : WellFormed p) where
   -- a node's blocks are as many as its inode counts
   pub node-filled : (fileid : ℕ) (inode : Inode) → get p.logical.inodes.inodes fileid ≡ Some inode
-      → filled_in (node_of p.stripes p.logical.directories fileid inode) ≡ filled_blocks inode.kind
+      → filled_in (node_of p.stripes p.logical.directories p.logical.texts fileid inode) ≡ filled_blocks inode.kind
   node-filled fileid inode there = by inode.kind (well.filled fileid inode there)
     where
       by : (kind : InodeKind) → filled_blocks kind ≡ sets.len (file_filled p.stripes fileid)
-          → filled_in (node_by p.stripes (get p.logical.directories fileid) fileid inode.attributes kind) ≡ filled_blocks kind
+          → filled_in (node_by p.stripes (get p.logical.directories fileid) (get p.logical.texts fileid) fileid inode.attributes inode.names kind) ≡ filled_blocks kind
       by (RegularFile size filled verifier) e = sym e
-      by (DirectoryKind parent subdirectories) e = refl
+      by kind e = refl
 
   -- the model's used blocks are the used count
   pub used-is : used (volume_of p) ≡ p.logical.inodes.used
   used-is =
-      let g : ℕ → Inode → Node = node_of p.stripes p.logical.directories in
+      let g : ℕ → Inode → Node = node_of p.stripes p.logical.directories p.logical.texts in
       ap blocks_of (entries-map_values g nat_cmp_total nat_cmp-IsAntisymmetric p.logical.inodes.inodes)
       ∙ blocks-total g (entries p.logical.inodes.inodes)
       ∙ total-entries nat_cmp_total nat_cmp-IsAntisymmetric (λ (e : ℕ × Inode). filled_in (g e.0 e.1)) (λ (e : ℕ × Inode). filled_blocks e.1.kind)

@@ -33,6 +33,7 @@ well-restocked p stock dead well = record {
     few = well.logical.few;
     sizes = well.logical.sizes;
     named = well.logical.named;
+    texts = well.logical.texts;
   };
   as_many = well.as_many;
   stripes = λ i less. let fits = well.stripes i less in record {

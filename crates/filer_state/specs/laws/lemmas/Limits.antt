@@ -1,5 +1,5 @@
 -- Limits that follow where a volume is sound: what sums and conditions of the code rest on.
-use Rattle.std.proofs.Common.{◌≡◌, ◌≢◌, ℕ, zero, suc, ◌+◌, ◌-◌, ◌*◌, ◌<◌, ◌≤◌, ◌==◌, Bool, true, false, cond, not, ◌&&◌, List, [], ◌∷◌, length, map}
+use Rattle.std.proofs.Common.{Option, ◌≡◌, ◌≢◌, ℕ, zero, suc, ◌+◌, ◌-◌, ◌*◌, ◌<◌, ◌≤◌, ◌==◌, Bool, true, false, cond, not, ◌&&◌, List, [], ◌∷◌, length, map}
 use Rattle.std.proofs.Common.{Some, None}
 use Rattle.std.proofs.Common.{refl, sym, ap, ◌∙◌, arith, eq-eqb, nat_lt, ⊎_elim, inl, inr, ◌⊎◌}
 use Rattle.std.specs.Prelude.{is_some, if◌then◌else◌}
@@ -20,6 +20,7 @@ use Rattle.filer_state.specs.state.WellFormed.{WellFormed}
 use Rattle.filer_state.specs.state.Partition.{all_numbers, StandOnce}
 use Rattle.filer_state.specs.laws.lemmas.Mapped.{entry-at-least}
 use Rattle.filer_state.specs.laws.lemmas.Counted.{all-times, all-length}
+use Rattle.nfs_model.specs.volume.Inodes.{Inode}
 
 -- ---- this many different numbers
 
@@ -147,40 +148,67 @@ few-keys {X} (x ∷ xs) m h =
 
 module _ (inodes : InodeMap) (directories : DirectoryMap) (named : AreNamed inodes directories) (fileid : ℕ) (d : DirectoryValue)
     (there : get directories fileid ≡ Some d) where
-  fileids : List Listed → List ℕ
-  fileids list = map (λ (e : Listed). e.fileid) list
+  -- the entries that are directories
+  directory_fileids : List Listed → List ℕ
+  directory_fileids [] = []
+  directory_fileids (e ∷ list) = if is_directory (get inodes e.fileid) then e.fileid ∷ directory_fileids list else directory_fileids list
 
-  times-fileids : (n : ℕ) (list : List Listed) → times_listed n (fileids list) ≡ times_in_list n list
-  unfolding fileids
-  times-fileids n [] = refl
-  times-fileids n (e ∷ list) = let others = times-fileids n list in omega arith
-
-  directories-some : (list : List Listed) → directories_listed inodes list ≤ length list
-  directories-some [] = omega arith
-  directories-some (e ∷ list) = by (is_directory (get inodes e.fileid)) (directories-some list)
+  as-many : (list : List Listed) → length (directory_fileids list) ≡ directories_listed inodes list
+  unfolding directory_fileids
+  as-many [] = refl
+  as-many (e ∷ list) = by (is_directory (get inodes e.fileid)) (as-many list)
     where
-      by : (b : Bool) → directories_listed inodes list ≤ length list → one_if b + directories_listed inodes list ≤ suc (length list)
+      by : (b : Bool) → length (directory_fileids list) ≡ directories_listed inodes list
+          → length (if b then e.fileid ∷ directory_fileids list else directory_fileids list) ≡ one_if b + directories_listed inodes list
       by true h = omega arith
       by false h = omega arith
 
-  -- a directory has no more entries than there are inodes
-  pub few-entries : length d.list ≤ len inodes
-  unfolding fileids
-  few-entries =
-      let most = few-keys (fileids d.list) inodes (λ n.
-      let here = times-fileids n d.list in
-      let all = entry-at-least nat_cmp-IsAntisymmetric (λ (e : ℕ × DirectoryValue). times_in_list n e.1.list) directories fileid d there in
-      let once = named.once n in
-      let some = at-most (is_some (get inodes n)) (not (n == root)) in
-      omega arith) in
-      let size = length-map d.list (λ (e : Listed). e.fileid) in
+  at-most : (n : ℕ) (list : List Listed) → times_listed n (directory_fileids list) ≤ times_in_list n list
+  unfolding directory_fileids
+  at-most n [] = omega arith
+  at-most n (e ∷ list) = by (is_directory (get inodes e.fileid)) (at-most n list)
+    where
+      by : (b : Bool) → times_listed n (directory_fileids list) ≤ times_in_list n list
+          → times_listed n (if b then e.fileid ∷ directory_fileids list else directory_fileids list) ≤ one_if (e.fileid == n) + times_in_list n list
+      by true h = omega arith
+      by false h = omega arith
+
+  none-else : (n : ℕ) → is_directory (get inodes n) ≡ false → (list : List Listed) → times_listed n (directory_fileids list) ≡ 0
+  unfolding directory_fileids
+  none-else n isnt [] = refl
+  none-else n isnt (e ∷ list) = by (is_directory (get inodes e.fileid)) refl (none-else n isnt list)
+    where
+      apart : (b : Bool) → (e.fileid == n) ≡ b → is_directory (get inodes e.fileid) ≡ true → one_if b ≡ 0
+      apart true same is = let not_one : is_directory (get inodes n) ≡ true = sym (ap (λ (k : ℕ). is_directory (get inodes k)) (eqb-true e.fileid n same)) ∙ is in absurd cc
+      apart false same is = refl
+
+      by : (b : Bool) → is_directory (get inodes e.fileid) ≡ b → times_listed n (directory_fileids list) ≡ 0
+          → times_listed n (if b then e.fileid ∷ directory_fileids list else directory_fileids list) ≡ 0
+      by true is h = let here = apart (e.fileid == n) refl is in omega arith
+      by false is h = h
+
+  -- a directory has no more subdirectories than there are inodes
+  pub few-directories : directories_listed inodes d.list ≤ len inodes
+  few-directories =
+      let most = few-keys (directory_fileids d.list) inodes (λ n. by n (is_directory (get inodes n)) refl) in
+      let size = as-many d.list in
       omega arith
     where
-      at-most : (a b : Bool) → one_if (a && b) ≤ one_if a
-      at-most true true = omega arith
-      at-most true false = omega arith
-      at-most false b = omega arith
+      some : (o : Option Inode) → is_directory o ≡ true → one_if (is_some o) ≡ 1
+      some None is = absurd cc
+      some (Some inode) is = refl
 
-  -- nor subdirectories
-  pub few-directories : directories_listed inodes d.list ≤ len inodes
-  few-directories = let some = directories-some d.list in let most = few-entries in omega arith
+      one-most : (b : Bool) → one_if b ≤ 1
+      one-most true = omega arith
+      one-most false = omega arith
+
+      by : (n : ℕ) (b : Bool) → is_directory (get inodes n) ≡ b → times_listed n (directory_fileids d.list) ≤ one_if (is_some (get inodes n))
+      by n true is =
+          let less = at-most n d.list in
+          let all = entry-at-least nat_cmp-IsAntisymmetric (λ (e : ℕ × DirectoryValue). times_in_list n e.1.list) directories fileid d there in
+          let counted = named.counted n in
+          let once = named.once n is in
+          let one = one-most (not (n == root)) in
+          let here = some (get inodes n) is in
+          omega arith
+      by n false is = let none = none-else n is d.list in omega arith

@@ -33,7 +33,7 @@ use Rattle.nfs_model.specs.volume.Stripes.{OfDirectory, Block, FileBlock, file_b
 use Rattle.filer_state.specs.state.Parcels.{FilerParcel, no_stripe, no_range}
 use Rattle.filer_state.specs.state.Contents.{VolumeContents, at, contents_of, logical_in, stripe_in, range_in, spare_in}
 use Rattle.filer_state.specs.state.Tree.{stripe_at, file_filled, home_stripe, most_file_blocks, node_of, node_by, volume_of, tree}
-use Rattle.filer_state.specs.state.Names.{root, size_of, size_in, parent_directory, is_directory, subdirectories_of, DirectoryFits, AreNamed, IsLogical}
+use Rattle.filer_state.specs.state.Names.{root, size_of, size_in, parent_directory, is_directory, subdirectories_of, DirectoryFits, AreNamed, IsLogical, names_of, text_length_of}
 use Rattle.filer_state.specs.state.Names.{InodeMap, DirectoryMap}
 use Rattle.filer_state.specs.state.WellFormed.{size_shown, owner_shown, owner_in, StripeFits, RangeFits, WellFormed}
 use Rattle.filer_state.specs.state.Partition.{StandOnce, times_in_stripe}
@@ -83,9 +83,11 @@ opening-named owner begun = record {
         children = tt;
         links = of-root owner begun subdirectories_of root;
       }));
-  once = λ q. ap (λ (es : List (ℕ × DirectoryValue)). total (λ (d : ℕ
+  counted = λ q. ap (λ (es : List (ℕ × DirectoryValue)). total (λ (d : ℕ
       × DirectoryValue). count (λ (e : Listed). e.fileid == q) d.1.list) es) (single-entries empty_directory)
-      ∙ sym (of-root owner begun (λ o. one_if (is_some o && not (q == root))) q ∙ unnamed (q == root));
+      ∙ sym (of-root owner begun names_of q ∙ unnamed (q == root));
+  once = λ q e. of-root owner begun names_of q ∙ unnamed (q == root)
+      ∙ sym (ap (λ (k : ℕ). one_if (not (k == root))) (directory-root (eqb q root) q (λ h. eqb-true q root h) (sym (of-root owner begun is_directory q) ∙ e)));
   rooted = λ q e. (0, directory-root (eqb q root) q (λ h. eqb-true q root h) (sym (of-root owner begun is_directory q) ∙ e));
 }
   where
@@ -93,7 +95,7 @@ opening-named owner begun = record {
     same true = refl
     same false = refl
 
-    unnamed : (b : Bool) → one_if (is_some (cond b (Some (root_inode owner begun)) None) && not b) ≡ 0
+    unnamed : (b : Bool) → names_of (cond b (Some (root_inode owner begun)) None) ≡ 0
     unnamed true = refl
     unnamed false = refl
 
@@ -121,7 +123,12 @@ opening-is-logical verifier stripes largest most steps owner begun size remember
   few = let one = len-entries (root_inodes owner begun) ∙ ap length (single-entries (root_inode owner begun)) in omega (arith, one, some);
   sizes = opening-sizes owner begun largest;
   named = opening-named owner begun;
+  texts = λ q. ap (option_map length) (get-empty nat_cmp q) ∙ sym (of-root owner begun text_length_of q ∙ untold (eqb q root));
 }
+  where
+    untold : (b : Bool) → text_length_of (cond b (Some (root_inode owner begun)) None) ≡ None
+    untold true = refl
+    untold false = refl
 
 -- ---- stripes without blocks
 
@@ -361,17 +368,17 @@ module _ {P : Type 0} (layout : Layout) (lawful : fault_of layout ≡ None) (ver
       subst (λ (x : VolumeContents). (x.number ≡ v) × IsSound x [] 0) (sym opens) (refl, opening-is-sound layout lawful verifier v on)
 
 root-nodes : (owner : Ownership) (begun : Moment) (stripes : List StripeValue)
-    → map_values (node_of stripes root_directories) (root_inodes owner begun) ≡ from_sorted ((root, root_node owner begun) ∷ [])
+    → map_values (node_of stripes root_directories maps.empty) (root_inodes owner begun) ≡ from_sorted ((root, root_node owner begun) ∷ [])
 root-nodes owner begun stripes = same_map nat_cmp_total nat_cmp-IsAntisymmetric _ _ (λ q.
-    get-map_values nat_cmp_total nat_cmp-IsAntisymmetric (node_of stripes root_directories) (root_inodes owner begun) q
-    ∙ of-root owner begun (option_map (node_of stripes root_directories q)) q
+    get-map_values nat_cmp_total nat_cmp-IsAntisymmetric (node_of stripes root_directories maps.empty) (root_inodes owner begun) q
+    ∙ of-root owner begun (option_map (node_of stripes root_directories maps.empty q)) q
     ∙ by (eqb q root) q (λ h. eqb-true q root h)
     ∙ sym (single-get (root_node owner begun) q))
   where
     by : (b : Bool) (q : ℕ) → (b ≡ true → q ≡ root)
-        → option_map (node_of stripes root_directories q) (cond b (Some (root_inode owner begun)) None) ≡ cond b (Some (root_node owner begun)) None
-    by true q h = ap (λ (k : ℕ). Some (node_of stripes root_directories k (root_inode owner begun))) (h refl)
-        ∙ ap (λ o. Some (node_by stripes o root (root_inode owner begun).attributes (root_inode owner begun).kind)) (single-get empty_directory root)
+        → option_map (node_of stripes root_directories maps.empty q) (cond b (Some (root_inode owner begun)) None) ≡ cond b (Some (root_node owner begun)) None
+    by true q h = ap (λ (k : ℕ). Some (node_of stripes root_directories maps.empty k (root_inode owner begun))) (h refl)
+        ∙ ap (λ o. Some (node_by stripes o (get (maps.empty {R = nat_cmp}) root) root (root_inode owner begun).attributes 0 (root_inode owner begun).kind)) (single-get empty_directory root)
     by false q h = refl
 
 volume-opens : (layout : Layout) (verifier : List ℕ) (v : ℕ) (x : VolumeLayout) → fault_of layout ≡ None → slice_get layout.volumes v ≡ Some x

@@ -13,7 +13,7 @@ use Rattle.nfs_model.specs.Server.{FileNode, Node, File, Directory, VolumeState,
 use Rattle.nfs_model.specs.Shown.{shown, before_of, wcc}
 use Rattle.nfs_model.specs.Locate.{Effect, Fails, Tells, on_file}
 use Rattle.nfs_model.specs.Serial.Readdir.{all_listed, above_cookie, fitting, page_of, paged, readdir_from}
-use Rattle.nfs_model.specs.volume.Inodes.{InodeKind, RegularFile, DirectoryKind, Inode}
+use Rattle.nfs_model.specs.volume.Inodes.{InodeKind, RegularFile, Inode}
 use Rattle.filer_state.specs.state.Contents.{VolumeContents}
 use Rattle.filer_state.specs.state.Tree.{volume_of, node_by, node_of, file_touch}
 use Rattle.filer_state.specs.state.WellFormed.{WellFormed}
@@ -56,10 +56,10 @@ module _ (v fileid : ℕ) (handle : List ℕ) (node : Affinity) (cookie : ℕ) (
   readdir-told : (p : VolumeContents) → WellFormed p
       → readdir_answer p.number fileid cookie verifier count (logical_lens.of p) ≡ answer_on (readdir_call handle node fileid cookie verifier count) p
   readdir-told p well =
-      directory-kind-told p fileid _ _ (λ inode parent subs there is.
+      directory-kind-told p fileid _ _ (λ inode parent there says.
       listing-told (is_bad_cookie cookie verifier) (min count most_bytes) (shown_inode p.number fileid inode None)
       (shown (volume_of p) fileid (Directory (directory_at p fileid inode parent)))
-      (above_cookie cookie (all_listed fileid (directory_at p fileid inode parent))) (directory-kind-shown p fileid well inode parent subs there is))
+      (above_cookie cookie (all_listed fileid (directory_at p fileid inode parent))) (directory-kind-shown p fileid well inode parent there says))
 
   pub readdir-right : (set : LogicalSet)
       → RightOnVolume v logical_lens (ServesOn (readdir_call handle node fileid cookie verifier count) false) [] [] set
@@ -86,7 +86,7 @@ file-stays : (volume : VolumeState) (fileid : ℕ) (o : Option Node)
     → volume ≡ volume_left volume (on_file o (λ f. Tells (CommitDone (wcc volume fileid (File f) volume (File f)) volume.verifier)))
 file-stays volume fileid None = refl
 file-stays volume fileid (Some (File f)) = refl
-file-stays volume fileid (Some (Directory d)) = refl
+file-stays volume fileid (Some node) = refl
 
 module _ (p : VolumeContents) (well : WellFormed p) (fileid : ℕ) where
   abbrev commits : FileNode → Effect
@@ -94,16 +94,16 @@ module _ (p : VolumeContents) (well : WellFormed p) (fileid : ℕ) where
 
   kinds : (inode : Inode) → get p.logical.inodes.inodes fileid ≡ Some inode → (kind : InodeKind) → inode.kind ≡ kind
       → file_committed (shown_inode p.number fileid inode (file_touch p.stripes fileid)) p.logical.verifier kind
-      ≡ answer_of 2 (on_file (Some (node_by p.stripes (get p.logical.directories fileid) fileid inode.attributes kind)) commits)
+      ≡ answer_of 2 (on_file (Some (node_by p.stripes (get p.logical.directories fileid) (get p.logical.texts fileid) fileid inode.attributes inode.names kind)) commits)
   kinds inode there (RegularFile size filled verifier) is =
       let shows = sym (node-shown p well fileid inode there)
-      ∙ ap (λ (k : InodeKind). shown (volume_of p) fileid (node_by p.stripes (get p.logical.directories fileid) fileid inode.attributes k)) is in
+      ∙ ap (λ (k : InodeKind). shown (volume_of p) fileid (node_by p.stripes (get p.logical.directories fileid) (get p.logical.texts fileid) fileid inode.attributes inode.names k)) is in
       ap (λ (s : Shown). CommitDone (record { before = before_of s; after = s }) p.logical.verifier) shows
-  kinds inode there (DirectoryKind parent subs) is = refl
+  kinds inode there kind is = refl
 
   by_inode : (o : Option Inode) → get p.logical.inodes.inodes fileid ≡ o
       → inode_committed p.number fileid (logical_lens.of p) o
-      ≡ answer_of 2 (on_file (option_map (node_of p.stripes p.logical.directories fileid) o) commits)
+      ≡ answer_of 2 (on_file (option_map (node_of p.stripes p.logical.directories p.logical.texts fileid) o) commits)
   by_inode None e = refl
   by_inode (Some inode) e = kinds inode e inode.kind refl
 

@@ -60,7 +60,7 @@ module _ (p : VolumeContents) (well : WellFormed p) where
     where
       by : (o : Option Inode) → get p.logical.inodes.inodes fileid ≡ o
           → option_map (λ inode. shown_inode p.number fileid inode (file_touch p.stripes fileid)) o
-          ≡ shown_at (volume_of p) fileid (option_map (node_of p.stripes p.logical.directories fileid) o)
+          ≡ shown_at (volume_of p) fileid (option_map (node_of p.stripes p.logical.directories p.logical.texts fileid) o)
       by None there = refl
       by (Some inode) there = ap Some (sym (node-shown p well fileid inode there))
 
@@ -80,12 +80,12 @@ module _ (v fileid : ℕ) (handle : List ℕ) (node : Affinity) (cookie : ℕ) (
       → readdirplus_answer p.number fileid cookie verifier names_count count caller (logical_lens.of p)
       ≡ answer_on (readdirplus_call handle node fileid cookie verifier names_count count caller) p
   readdirplus-told p well =
-      directory-kind-told p fileid _ _ (λ inode parent subs there is.
+      directory-kind-told p fileid _ _ (λ inode parent there says.
       listing-told (is_bad_cookie cookie verifier) (min names_count most_bytes) (min count most_bytes)
       (entry_for caller p.number (logical_lens.of p) inode) (listed_for caller (volume_of p) (directory_at p fileid inode parent))
       (shown_inode p.number fileid inode None) (shown (volume_of p) fileid (Directory (directory_at p fileid inode parent)))
       (above_cookie cookie (all_listed fileid (directory_at p fileid inode parent)))
-      (entries-for p well fileid caller inode parent) (sym (directory-kind-shown p fileid well inode parent subs there is)))
+      (entries-for p well fileid caller inode parent) (sym (directory-kind-shown p fileid well inode parent there says)))
 
   pub readdirplus-right : (set : LogicalSet)
       → RightOnVolume v logical_lens (ServesOn (readdirplus_call handle node fileid cookie verifier names_count count caller) false) [] [] set

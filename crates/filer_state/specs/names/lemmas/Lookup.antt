@@ -10,10 +10,11 @@ use Rattle.nfs_model.specs.Shown.{shown}
 use Rattle.nfs_model.specs.Names.{same_name, dot, dot_dot, find_name, name_fault}
 use Rattle.nfs_model.specs.Locate.{unless, Found, found_at, child, Naming, named_child}
 use Rattle.nfs_model.specs.Serial.Lookup.{looked_up, lookup_told}
-use Rattle.nfs_model.specs.volume.Inodes.{Inode, DirectoryKind}
+use Rattle.nfs_model.specs.volume.Inodes.{Inode}
 use Rattle.nfs_model.specs.volume.Directories.{fileid_found}
 use Rattle.filer_state.specs.state.Contents.{VolumeContents}
 use Rattle.filer_state.specs.state.Tree.{volume_of, node_of, file_touch}
+use Rattle.filer_state.specs.state.Names.{parent_in}
 use Rattle.filer_state.specs.state.WellFormed.{WellFormed}
 use Rattle.filer_state.specs.state.Jobs.{Replied}
 use Rattle.filer_state.specs.state.Lenses.{LogicalSet, logical_lens}
@@ -39,7 +40,7 @@ abbrev naming : VolumeState → ℕ → List ℕ → Moment → DirectoryNode �
 naming volume fileid name moment d = record { volume = volume; fileid = fileid; directory = d; name = name; moment = moment }
 
 module _ (p : VolumeContents) (well : WellFormed p) (fileid : ℕ) (name : List ℕ) (moment : Moment) where
-  module _ (inode : Inode) (parent subs : ℕ) (there : get p.logical.inodes.inodes fileid ≡ Some inode) (is : inode.kind ≡ DirectoryKind parent subs) where
+  module _ (inode : Inode) (parent : ℕ) (there : get p.logical.inodes.inodes fileid ≡ Some inode) (says : parent_in inode.kind ≡ Some parent) where
     abbrev here : Naming
     here = naming (volume_of p) fileid name moment (directory_at p fileid inode parent)
 
@@ -54,12 +55,12 @@ module _ (p : VolumeContents) (well : WellFormed p) (fileid : ℕ) (name : List 
       where
         by : (o : Option Inode) → get p.logical.inodes.inodes q ≡ o
             → object_told p.number (logical_lens.of p) own q o
-            ≡ answer_of 1 (lookup_told here (found_at q (option_map (node_of p.stripes p.logical.directories q) o)))
+            ≡ answer_of 1 (lookup_told here (found_at q (option_map (node_of p.stripes p.logical.directories p.logical.texts q) o)))
         by None e = refl
         by (Some i) e =
-            let object : shown_inode p.number q i (file_touch p.stripes q) ≡ shown (volume_of p) q (node_of p.stripes p.logical.directories q i) =
+            let object : shown_inode p.number q i (file_touch p.stripes q) ≡ shown (volume_of p) q (node_of p.stripes p.logical.directories p.logical.texts q i) =
             sym (node-shown p well q i e) in
-            let directory = sym (directory-kind-shown p fileid well inode parent subs there is) in
+            let directory = sym (directory-kind-shown p fileid well inode parent there says) in
             λ j. LookupDone (handle_bytes p.number q) (object j) (directory j)
 
     entry : (o : Option Listed) → found_told p.number (logical_lens.of p) own (option_map (λ (e : Listed). e.fileid) o)
@@ -75,8 +76,8 @@ module _ (p : VolumeContents) (well : WellFormed p) (fileid : ℕ) (name : List 
         self : found_told p.number (logical_lens.of p) own (Some fileid)
             ≡ answer_of 1 (lookup_told here (Some (record { fileid = fileid; node = Directory (directory_at p fileid inode parent) })))
         self =
-            let directory = sym (directory-kind-shown p fileid well inode parent subs there is) in
-            let object = same-shown p.number fileid inode parent subs is (file_touch p.stripes fileid) ∙ directory in
+            let directory = sym (directory-kind-shown p fileid well inode parent there says) in
+            let object = same-shown p.number fileid inode parent says (file_touch p.stripes fileid) ∙ directory in
             ap (object_told p.number (logical_lens.of p) own fileid) there
             ∙ (λ j. LookupDone (handle_bytes p.number fileid) (object j) (directory j))
 
@@ -102,4 +103,4 @@ lookup-right v fileid handle name node moment =
     tells-right v (lookup_call handle node fileid name moment) (λ n s. lookup_answer n fileid name s) (λ p. refl) (λ p. refl)
     (λ p. directory-stays (volume_of p) (get (volume_of p).nodes fileid) _ (λ d.
     name-stays (volume_of p) (naming (volume_of p) fileid name moment d) (name_fault name)))
-    (λ p well. directory-kind-told p fileid _ _ (λ inode parent subs there is. checked p well fileid name moment inode parent subs there is (name_fault name)))
+    (λ p well. directory-kind-told p fileid _ _ (λ inode parent there says. checked p well fileid name moment inode parent there says (name_fault name)))

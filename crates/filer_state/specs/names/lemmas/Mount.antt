@@ -9,7 +9,7 @@ use Rattle.nfs_model.specs.Names.{find_name}
 use Rattle.nfs_model.specs.Locate.{Effect, unless, on_directory}
 use Rattle.nfs_model.specs.Serial.Mount.{parts_below}
 use Rattle.nfs_model.specs.Serial.MountBelow.{search_refusal, part_fault, on_entry, mount_below}
-use Rattle.nfs_model.specs.volume.Inodes.{InodeKind, RegularFile, DirectoryKind, Inode}
+use Rattle.nfs_model.specs.volume.Inodes.{InodeKind, DirectoryKind, Inode}
 use Rattle.filer_state.specs.state.Contents.{VolumeContents}
 use Rattle.filer_state.specs.state.Tree.{volume_of, node_by, node_of}
 use Rattle.filer_state.specs.state.Jobs.{Replied}
@@ -57,12 +57,12 @@ module _ (p : VolumeContents) (fileid : ℕ) where
     where
       kinds : (inode : Inode) (kind : InodeKind)
           → by_directory_kind kind answer
-          ≡ answer_of 0 (on_directory (Some (node_by p.stripes (get p.logical.directories fileid) fileid inode.attributes kind)) run)
-      kinds inode (RegularFile size filled verifier) = refl
+          ≡ answer_of 0 (on_directory (Some (node_by p.stripes (get p.logical.directories fileid) (get p.logical.texts fileid) fileid inode.attributes inode.names kind)) run)
       kinds inode (DirectoryKind parent subs) = tells _ refl
+      kinds inode kind = refl
 
       by : (o : Option Inode)
-          → in_directory o answer ≡ answer_of 0 (on_directory (option_map (node_of p.stripes p.logical.directories fileid) o) run)
+          → in_directory o answer ≡ answer_of 0 (on_directory (option_map (node_of p.stripes p.logical.directories p.logical.texts fileid) o) run)
       by None = refl
       by (Some inode) = kinds inode inode.kind
 
@@ -80,12 +80,12 @@ module _ (p : VolumeContents) (fileid : ℕ) where
 
       kinds : (inode : Inode) (kind : InodeKind)
           → by_directory_kind kind (unless_part_fault (search_fault caller inode) answer)
-          ≡ answer_of 0 (on_directory (Some (node_by p.stripes (get p.logical.directories fileid) fileid inode.attributes kind)) (searched caller run))
-      kinds inode (RegularFile size filled verifier) = refl
+          ≡ answer_of 0 (on_directory (Some (node_by p.stripes (get p.logical.directories fileid) (get p.logical.texts fileid) fileid inode.attributes inode.names kind)) (searched caller run))
       kinds inode (DirectoryKind parent subs) = faults (search_fault caller inode) _ (tells _ refl)
+      kinds inode kind = refl
 
       by : (o : Option Inode)
-          → in_searched caller o answer ≡ answer_of 0 (on_directory (option_map (node_of p.stripes p.logical.directories fileid) o) (searched caller run))
+          → in_searched caller o answer ≡ answer_of 0 (on_directory (option_map (node_of p.stripes p.logical.directories p.logical.texts fileid) o) (searched caller run))
       by None = refl
       by (Some inode) = kinds inode inode.kind
 

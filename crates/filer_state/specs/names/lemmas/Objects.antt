@@ -33,7 +33,7 @@ object-stays volume fileid answer (Some node) = refl
 module _ (p : VolumeContents) (well : WellFormed p) (fileid : ℕ) (answer : Shown → Answer) where
   inode-told : (o : Option Inode) → get p.logical.inodes.inodes fileid ≡ o
       → object_told_by answer (option_map (λ inode. shown_inode p.number fileid inode (file_touch p.stripes fileid)) o)
-      ≡ answer_of 1 (on_node (option_map (node_of p.stripes p.logical.directories fileid) o)
+      ≡ answer_of 1 (on_node (option_map (node_of p.stripes p.logical.directories p.logical.texts fileid) o)
       (λ node. Tells (answer (shown (volume_of p) fileid node))))
   inode-told None e = refl
   inode-told (Some inode) e = ap answer (sym (node-shown p well fileid inode e))

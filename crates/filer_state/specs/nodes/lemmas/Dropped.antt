@@ -8,29 +8,30 @@ use Rattle.std.specs.Option.{option_map}
 use Rattle.std.specs.Cmp.{nat_cmp_total}
 use Rattle.std.specs.FinMap.{get, insert, remove, len, nat_cmp-IsAntisymmetric}
 use Rattle.std.specs.FinSet as sets
-use Rattle.nfs_model.specs.Server.{Attributes, Node, File, Directory, block_size}
-use Rattle.nfs_model.specs.Serial.Rights.{ownership_of}
+use Rattle.nfs_model.specs.Server.{Node, Directory, block_size}
 use Rattle.nfs_model.specs.Names.{dropped_name}
 use Rattle.nfs_model.specs.Parts.{Hand}
 use Rattle.depot_rule.specs.Sums.{total}
 use Rattle.nfs_model.specs.volume.Directories.{DirectoryValue, removed}
-use Rattle.nfs_model.specs.volume.Inodes.{InodeKind, RegularFile, DirectoryKind, Inode, InodesValue, filled_blocks, inode_of, inode_dropped}
+use Rattle.nfs_model.specs.volume.Inodes.{InodeKind, Inode, InodesValue, filled_blocks, inode_of, inode_dropped}
 use Rattle.nfs_model.specs.volume.Stripes.{StripeValue, touch_of, card_dropped}
 use Rattle.nfs_model.specs.volume.lemmas.Inodes.{len-set, len-dropped, dropped-is, set-is, next-set, used-set-same, used-dropped}
 use Rattle.nfs_model.specs.volume.lemmas.Maps.{get-map_values}
 use Rattle.nfs_model.specs.volume.lemmas.Numbered.{get-insert_at, get-remove_at, same-answers, itself}
 use Rattle.filer_state.specs.state.Contents.{VolumeContents}
-use Rattle.filer_state.specs.state.Tree.{stripe_at, file_filled, file_touch, later, directory_or_empty, node_by, node_of, volume_of}
-use Rattle.filer_state.specs.state.Names.{size_in, size_of, parent_in}
-use Rattle.filer_state.specs.state.WellFormed.{StripeFits, WellFormed, size_shown, owner_shown, owner_by, owner_in}
+use Rattle.filer_state.specs.state.Tree.{stripe_at, file_filled, file_touch, later, directory_or_empty, node_with, node_of, volume_of, text_or_empty}
+use Rattle.filer_state.specs.state.Names.{size_in, size_of, parent_in, text_length_in, text_length_of}
+use Rattle.filer_state.specs.state.WellFormed.{StripeFits, WellFormed, size_shown, owner_shown, owner_in}
 use Rattle.filer_state.specs.state.Partition.{times_in_stripe, times_in_hand}
 use Rattle.filer_state.specs.state.Sound.{IsSound}
 use Rattle.filer_state.specs.state.Lenses.{logical_lens}
+use Rattle.filer_state.specs.laws.lemmas.InodeKinds.{directory-seen, owner-alike}
 use Rattle.filer_state.specs.laws.lemmas.SameBlocks as blocks
 use Rattle.filer_state.specs.nodes.Making.{directories_in}
-use Rattle.filer_state.specs.nodes.Dropping.{Dropping, without_subdirectories, directory_left, inodes_left, node_dropped}
+use Rattle.filer_state.specs.nodes.Dropping.{Dropping, directory_left, inodes_left, node_dropped}
 use Rattle.filer_state.specs.nodes.lemmas.Unnamed as names
 use Rattle.filer_state.specs.nodes.Laws.{LosesName, IsEmptyKind, seen_directory}
+use Rattle.filer_state.specs.laws.lemmas.InodeKinds as kinds
 
 -- ---- cards
 
@@ -54,24 +55,9 @@ module _ (f : ℕ) where
 abbrev pub left_in : Dropping → VolumeContents → VolumeContents
 left_in m p = logical_lens.put (node_dropped m (logical_lens.of p)) p
 
--- the owner of a directory that has fewer subdirectories
-owner-kept : (fewer : ℕ) (a b : Attributes) → ownership_of b ≡ ownership_of a → (k : InodeKind)
-    → owner_by b (without_subdirectories fewer k) ≡ owner_by a k
-owner-kept fewer a b is (RegularFile size filled verifier) = ap Some is
-owner-kept fewer a b is (DirectoryKind parent subdirectories) = refl
-
-filled-kept : (fewer : ℕ) (k : InodeKind) → filled_blocks (without_subdirectories fewer k) ≡ filled_blocks k
-filled-kept fewer (RegularFile size filled verifier) = refl
-filled-kept fewer (DirectoryKind parent subdirectories) = refl
-
-empty-filled : (k : InodeKind) → IsEmptyKind k → filled_blocks k ≡ 0
-empty-filled (RegularFile size filled verifier) h = h.1
-empty-filled (DirectoryKind parent subdirectories) h = refl
-
 -- a node that is empty has no block that starts before its size
 empty-size : (k : InodeKind) (size block : ℕ) → IsEmptyKind k → size_in k ≡ Some size → block_size * block < size → ⊥
-empty-size (RegularFile n filled verifier) size block h e less = let same : n ≡ size = cc in let none = h.0 in absurd (omega (arith, same, none, less))
-empty-size (DirectoryKind parent subdirectories) size block h e less = absurd cc
+empty-size k size block h e less = let none : size ≡ 0 = subst (λ o. IfSome o (λ n. n ≡ 0)) e h.0 in omega (arith, none, less)
 
 module _ (p : VolumeContents) (m : Dropping) (well : WellFormed p) (may : LosesName m p.logical.inodes p.logical.directories) where
   abbrev old : InodesValue
@@ -128,7 +114,8 @@ module _ (p : VolumeContents) (m : Dropping) (well : WellFormed p) (may : LosesN
       → (q : ℕ) → option_map owner_shown (get (card_dropped m.fileid s).cards q) ≡ option_map owner_in (inode_of new q)
   owners-after s fits = by-fileid (λ q. option_map owner_shown (get (card_dropped m.fileid s).cards q) ≡ option_map owner_in (inode_of new q))
       (ap (option_map owner_shown) (card-other m.fileid s m.directory apart) ∙ fits m.directory ∙ ap (option_map owner_in) may.there
-      ∙ ap Some (sym (owner-kept (directories_in m.dropped.kind) m.inode.attributes (directory_left m).attributes refl m.inode.kind))
+      ∙ ap Some (sym (owner-alike m.inode.attributes (directory_left m).attributes m.inode.kind (directory_left m).kind refl
+      (names.size-kept (directories_in m.dropped.kind) m.inode.kind)))
       ∙ sym (ap (option_map owner_in) at-directory))
       (ap (option_map owner_shown) (card-left m.fileid s m.fileid)
       ∙ ap (λ (b : Bool). option_map owner_shown (if b then None else get s.cards m.fileid)) (itself m.fileid)
@@ -166,10 +153,38 @@ module _ (p : VolumeContents) (m : Dropping) (well : WellFormed p) (may : LosesN
   filled-after = by-fileid (λ q. (x : Inode) → inode_of new q ≡ Some x → filled_blocks x.kind ≡ sets.len (file_filled after.stripes q))
       (λ x e.
       let is : directory_left m ≡ x = (let at = at-directory in cc) in
-      ap (λ (i : Inode). filled_blocks i.kind) (sym is) ∙ filled-kept (directories_in m.dropped.kind) m.inode.kind
+      ap (λ (i : Inode). filled_blocks i.kind) (sym is) ∙ names.blocks-kept (directories_in m.dropped.kind) m.inode.kind
       ∙ well.filled m.directory m.inode may.there ∙ sym (ap sets.len (stay m.directory)))
       (λ x e. let none = at-dropped in absurd cc)
       (λ q ne left x e. well.filled q x (sym (at-other q ne left) ∙ e) ∙ sym (ap sets.len (stay q)))
+
+  -- the texts: one less, if it is a symbolic link
+  none-there : (o : Option (List ℕ)) → option_map length o ≡ None → o ≡ None
+  none-there None e = refl
+  none-there (Some text) e = absurd cc
+
+  dropped-text : get after.logical.texts m.fileid ≡ None
+  dropped-text = by (text_length_in m.dropped.kind) refl
+    where
+      by : (o : Option ℕ) → text_length_in m.dropped.kind ≡ o
+          → get (if is_some o then remove p.logical.texts m.fileid else p.logical.texts) m.fileid ≡ None
+      by None e = none-there (get p.logical.texts m.fileid) (well.logical.texts m.fileid ∙ ap text_length_of may.node ∙ e)
+      by (Some size) e =
+          get-remove_at p.logical.texts m.fileid m.fileid ∙ ap (λ (b : Bool). if b then None else get p.logical.texts m.fileid) (itself m.fileid)
+
+  other-text : (q : ℕ) → (q == m.fileid) ≡ false → get after.logical.texts q ≡ get p.logical.texts q
+  other-text q left = by (is_some (text_length_in m.dropped.kind))
+    where
+      by : (b : Bool) → get (if b then remove p.logical.texts m.fileid else p.logical.texts) q ≡ get p.logical.texts q
+      by false = refl
+      by true = get-remove_at p.logical.texts m.fileid q ∙ ap (λ (b : Bool). if b then None else get p.logical.texts q) left
+
+  texts-left : (q : ℕ) → option_map length (get after.logical.texts q) ≡ text_length_of (inode_of new q)
+  texts-left = by-fileid (λ q. option_map length (get after.logical.texts q) ≡ text_length_of (inode_of new q))
+      (ap (option_map length) (other-text m.directory apart) ∙ well.logical.texts m.directory ∙ ap text_length_of may.there
+      ∙ sym (ap text_length_of at-directory ∙ kinds.text-changed (λ parent. parent) (λ n. n - directories_in m.dropped.kind) m.inode.kind))
+      (ap (option_map length) dropped-text ∙ sym (ap text_length_of at-dropped))
+      (λ q ne left. ap (option_map length) (other-text q left) ∙ well.logical.texts q ∙ sym (ap text_length_of (at-other q ne left)))
 
   dropped-lawful : inode_of (inode_dropped m.fileid old) m.directory ≡ Some m.inode
   dropped-lawful = names.there-still old p.logical.directories m may
@@ -196,6 +211,7 @@ module _ (p : VolumeContents) (m : Dropping) (well : WellFormed p) (may : LosesN
           (subst (λ o. IfSome (size_of o) (λ size. size ≤ p.logical.largest)) (sym at-dropped) tt)
           (λ q ne left. subst (λ o. IfSome o (λ size. size ≤ p.logical.largest)) (sym (size-same q left)) (well.logical.sizes q));
       named = names.named-left old p.logical.directories m may well.logical.named;
+      texts = texts-left;
     };
     as_many = length-map p.stripes (card_dropped m.fileid) ∙ well.as_many;
     stripes = λ i less.
@@ -205,10 +221,10 @@ module _ (p : VolumeContents) (m : Dropping) (well : WellFormed p) (may : LosesN
         (fits-after i (stripe_at p.stripes i) (well.stripes i on));
     used =
         let same = used-set-same (inode_dropped m.fileid old) m.directory m.inode (directory_left m) (dropped-is old m.fileid well.logical.inodes)
-        dropped-lawful (filled-kept (directories_in m.dropped.kind) m.inode.kind) in
+        dropped-lawful (names.blocks-kept (directories_in m.dropped.kind) m.inode.kind) in
         let left = used-dropped old m.fileid m.dropped well.logical.inodes may.node in
         let was = well.used in
-        let none = empty-filled m.dropped.kind may.kind in
+        let none = may.kind.1 in
         let stored = blocks.total-mapped (card_dropped m.fileid) (λ (s : StripeValue). len s.blocks) (λ s. refl) p.stripes in
         omega (arith, same, left, was, none, stored);
     filled = filled-after;
@@ -250,42 +266,24 @@ module _ (p : VolumeContents) (m : Dropping) (well : WellFormed p) (may : LosesN
     abbrev pub directory_then : Node
     directory_then = Directory (dropped_name (seen_directory m.inode m.entries parent) m.name m.moment)
 
-    is-directory : node_of after.stripes after.logical.directories m.directory (directory_left m) ≡ directory_then
-    is-directory = by m.inode.kind says
-      where
-        by : (kind : InodeKind) → parent_in kind ≡ Some parent
-            → node_by after.stripes (get after.logical.directories m.directory) m.directory (directory_left m).attributes
-            (without_subdirectories (directories_in m.dropped.kind) kind) ≡ directory_then
-        by (RegularFile size filled verifier) e = absurd cc
-        by (DirectoryKind up subdirectories) e =
-            let same : up ≡ parent = cc in
-            λ j. Directory (record {
-              attributes = (directory_left m).attributes;
-              parent = same j;
-              next = (directory_or_empty (directory-entries j)).next;
-              list = (directory_or_empty (directory-entries j)).list;
-            })
+    is-directory : node_of after.stripes after.logical.directories after.logical.texts m.directory (directory_left m) ≡ directory_then
+    is-directory =
+        directory-seen after.stripes (get after.logical.directories m.directory) (get after.logical.texts m.directory) m.directory
+        (directory_left m).attributes m.inode.names (directory_left m).kind parent
+        (names.parent-kept (directories_in m.dropped.kind) m.inode.kind ∙ says)
+        ∙ ap (λ (o : Option DirectoryValue). Directory (seen_directory (directory_left m) (directory_or_empty o) parent)) directory-entries
 
     other-node : (q : ℕ) → (q == m.directory) ≡ false → (q == m.fileid) ≡ false → (inode : Inode)
-        → node_of after.stripes after.logical.directories q inode ≡ node_of p.stripes p.logical.directories q inode
-    other-node q ne left inode = by inode.kind
-      where
-        by : (kind : InodeKind) → node_by after.stripes (get after.logical.directories q) q inode.attributes kind
-            ≡ node_by p.stripes (get p.logical.directories q) q inode.attributes kind
-        by (RegularFile size filled verifier) = λ j. File (record {
-          attributes = inode.attributes;
-          bytes = blocks.bytes-stay (card_dropped m.fileid) (λ s. refl) p.stripes q size j;
-          filled = stay q j;
-          touch = touch-other m.fileid p.stripes q left j;
-          verifier = verifier;
-        })
-        by (DirectoryKind up subdirectories) = λ j. node_by p.stripes (other-entries q ne left j) q inode.attributes (DirectoryKind up subdirectories)
+        → node_of after.stripes after.logical.directories after.logical.texts q inode ≡ node_of p.stripes p.logical.directories p.logical.texts q inode
+    other-node q ne left inode = λ j. node_with
+        (λ size. blocks.bytes-stay (card_dropped m.fileid) (λ s. refl) p.stripes q size j) (stay q j) (touch-other m.fileid p.stripes q left j)
+        (directory_or_empty (other-entries q ne left j)) (text_or_empty (other-text q left j)) inode.attributes inode.names inode.kind
 
     abbrev now : ℕ → Inode → Node
-    now = node_of after.stripes after.logical.directories
+    now = node_of after.stripes after.logical.directories after.logical.texts
 
     abbrev was : ℕ → Inode → Node
-    was = node_of p.stripes p.logical.directories
+    was = node_of p.stripes p.logical.directories p.logical.texts
 
     abbrev answer : ℕ → Option Node
     answer q = if q == m.directory then Some directory_then else if q == m.fileid then None else get (volume_of p).nodes q

@@ -9,11 +9,12 @@ use Rattle.nfs_model.specs.Server.{used}
 use Rattle.nfs_model.specs.Parts.{Hand, one_if, times_listed}
 use Rattle.nfs_model.specs.Moves.{Emptied}
 use Rattle.depot_rule.specs.Sums.{total}
-use Rattle.nfs_model.specs.volume.Inodes.{RegularFile, filled_blocks}
+use Rattle.nfs_model.specs.volume.Inodes.{filled_blocks}
 use Rattle.nfs_model.specs.volume.lemmas.Inodes.{used-set}
 use Rattle.nfs_model.specs.Serial.Rights.{ownership_of}
 use Rattle.filer_state.specs.state.Contents.{VolumeContents}
 use Rattle.filer_state.specs.state.Tree.{volume_of, ranges_used}
+use Rattle.filer_state.specs.state.Kinds.{IsFile}
 use Rattle.filer_state.specs.state.Partition.{parts_of, all_numbers, files_in, times_in_stripe, StandOnce}
 use Rattle.filer_state.specs.state.WellFormed.{WellFormed}
 use Rattle.filer_state.specs.laws.lemmas.Counted.{all-times, listed-times, len-listed, used-is}
@@ -22,7 +23,7 @@ use Rattle.filer_state.specs.nodes.lemmas.Sized.{sized_in, freed-times, fewer-fi
 
 module _ (p : VolumeContents) (m : Sizing) (hands : List Hand) (partition : StandOnce p hands) (well : WellFormed p)
     (there : get p.logical.inodes.inodes m.fileid ≡ Some m.inode)
-    (old_size filled : ℕ) (verifier : Option (List ℕ)) (is_file : m.inode.kind ≡ RegularFile old_size filled verifier)
+    (old_size filled : ℕ) (verifier : Option (List ℕ)) (is_file : IsFile m.inode.kind old_size filled verifier)
     (small : m.size ≤ p.logical.largest) where
   abbrev freed : List ℕ
   freed = all_freed m.fileid m.size p.stripes

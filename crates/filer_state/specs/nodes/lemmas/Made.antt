@@ -16,22 +16,24 @@ use Rattle.nfs_model.specs.Serial.Rights.{ownership_of}
 use Rattle.nfs_model.specs.Parts.{Hand}
 use Rattle.depot_rule.specs.Sums.{total}
 use Rattle.nfs_model.specs.volume.Directories.{DirectoryValue, empty_directory, added}
-use Rattle.nfs_model.specs.volume.Inodes.{InodeKind, RegularFile, DirectoryKind, Inode, InodesValue, filled_blocks, inode_of, inode_created}
+use Rattle.nfs_model.specs.volume.Inodes.{InodeKind, Inode, InodesValue, filled_blocks, inode_of, inode_created}
 use Rattle.nfs_model.specs.volume.Stripes.{Card, OfFile, OfDirectory, Block, StripeValue, touch_of, stripe_of, is_filled}
 use Rattle.nfs_model.specs.volume.lemmas.Inodes.{next-absent, len-set, len-created, created-is, set-is, next-set, used-set-same, inode-created-other}
 use Rattle.nfs_model.specs.volume.lemmas.Numbered.{get-insert_at, itself}
 use Rattle.filer_state.specs.state.Contents.{VolumeContents}
 use Rattle.filer_state.specs.state.Tree.{stripe_at, home_stripe, file_filled, file_touch, later, most_file_blocks}
-use Rattle.filer_state.specs.state.Names.{DirectoryMap, size_in, size_of, AreNamed}
+use Rattle.filer_state.specs.state.Names.{DirectoryMap, size_in, size_of, parent_in, AreNamed, text_length_of}
 use Rattle.filer_state.specs.state.WellFormed.{StripeFits, WellFormed, size_shown, owner_shown, owner_by, owner_in}
 use Rattle.filer_state.specs.state.Partition.{times_in_stripe, times_in_hand}
 use Rattle.filer_state.specs.state.Sound.{IsSound}
 use Rattle.filer_state.specs.state.Lenses.{logical_lens}
+use Rattle.filer_state.specs.laws.lemmas.InodeKinds.{owner-alike}
 use Rattle.filer_state.specs.laws.lemmas.SameBlocks as blocks
-use Rattle.filer_state.specs.nodes.Making.{Making, with_subdirectories, directories_in, directory_inode, inodes_made, entries_made, card_made, node_made}
+use Rattle.filer_state.specs.nodes.Making.{Making, directories_in, directory_inode, inodes_made, entries_made, card_of_size, card_made, node_made, texts_made}
 use Rattle.filer_state.specs.nodes.lemmas.Named as names
 use Rattle.filer_state.specs.nodes.lemmas.Named.{new_entries}
-use Rattle.filer_state.specs.nodes.Laws.{IsNewIn, MayBeMade}
+use Rattle.filer_state.specs.nodes.Laws.{MayBeMade}
+use Rattle.filer_state.specs.laws.lemmas.InodeKinds as kinds
 
 -- ---- cards
 
@@ -39,79 +41,83 @@ abbrev shown_size : Inode → Option ℕ
 shown_size inode = size_in inode.kind
 
 module _ (owner : Ownership) (k : InodeKind) (f : ℕ) where
-  abbrev card_of_kind : InodeKind → Card
-  card_of_kind (RegularFile size filled verifier) = OfFile size None owner
-  card_of_kind (DirectoryKind parent subdirectories) = OfDirectory
+  -- the new card
+  abbrev card_by : Option ℕ → Card
+  card_by None = OfDirectory
+  card_by (Some size) = OfFile size None owner
+
+  abbrev card : Card
+  card = card_by (size_in k)
 
   pub blocks-same : (s : StripeValue) → (card_made owner k f s).blocks ≡ s.blocks
-  blocks-same s = by k
+  blocks-same s = by (size_in k)
     where
-      by : (kind : InodeKind) → (card_made owner kind f s).blocks ≡ s.blocks
-      by (RegularFile size filled verifier) = refl
-      by (DirectoryKind parent subdirectories) = refl
+      by : (o : Option ℕ) → (card_of_size owner o f s).blocks ≡ s.blocks
+      by None = refl
+      by (Some size) = refl
 
   verifier-same : (s : StripeValue) → (card_made owner k f s).verifier ≡ s.verifier
-  verifier-same s = by k
+  verifier-same s = by (size_in k)
     where
-      by : (kind : InodeKind) → (card_made owner kind f s).verifier ≡ s.verifier
-      by (RegularFile size filled verifier) = refl
-      by (DirectoryKind parent subdirectories) = refl
+      by : (o : Option ℕ) → (card_of_size owner o f s).verifier ≡ s.verifier
+      by None = refl
+      by (Some size) = refl
 
   stripes-same : (s : StripeValue) → (card_made owner k f s).stripes ≡ s.stripes
-  stripes-same s = by k
+  stripes-same s = by (size_in k)
     where
-      by : (kind : InodeKind) → (card_made owner kind f s).stripes ≡ s.stripes
-      by (RegularFile size filled verifier) = refl
-      by (DirectoryKind parent subdirectories) = refl
+      by : (o : Option ℕ) → (card_of_size owner o f s).stripes ≡ s.stripes
+      by None = refl
+      by (Some size) = refl
 
   largest-same : (s : StripeValue) → (card_made owner k f s).largest ≡ s.largest
-  largest-same s = by k
+  largest-same s = by (size_in k)
     where
-      by : (kind : InodeKind) → (card_made owner kind f s).largest ≡ s.largest
-      by (RegularFile size filled verifier) = refl
-      by (DirectoryKind parent subdirectories) = refl
+      by : (o : Option ℕ) → (card_of_size owner o f s).largest ≡ s.largest
+      by None = refl
+      by (Some size) = refl
 
   -- where there was no card, there is one without a touch; the others stay
   card-found : (s : StripeValue) → get s.cards f ≡ None → (q : ℕ)
-      → get (card_made owner k f s).cards q ≡ (if q == f then Some (card_of_kind k) else get s.cards q)
-  card-found s none q = by k
+      → get (card_made owner k f s).cards q ≡ (if q == f then Some card else get s.cards q)
+  card-found s none q = by (size_in k)
     where
-      by : (kind : InodeKind) → get (card_made owner kind f s).cards q ≡ (if q == f then Some (card_of_kind kind) else get s.cards q)
-      by (RegularFile size filled verifier) =
+      by : (o : Option ℕ) → get (card_of_size owner o f s).cards q ≡ (if q == f then Some (card_by o) else get s.cards q)
+      by None = get-insert_at s.cards f OfDirectory q
+      by (Some size) =
           get-insert_at s.cards f (OfFile size (touch_of (get s.cards f)) owner) q
           ∙ ap (λ o. if q == f then Some (OfFile size (touch_of o) owner) else get s.cards q) none
-      by (DirectoryKind parent subdirectories) = get-insert_at s.cards f OfDirectory q
 
-  shown-kind : (kind : InodeKind) → size_shown (card_of_kind kind) ≡ size_in kind
-  shown-kind (RegularFile size filled verifier) = refl
-  shown-kind (DirectoryKind parent subdirectories) = refl
+  shown-size : (o : Option ℕ) → size_shown (card_by o) ≡ o
+  shown-size None = refl
+  shown-size (Some size) = refl
 
-  untouched : (kind : InodeKind) → touch_of (Some (card_of_kind kind)) ≡ None
-  untouched (RegularFile size filled verifier) = refl
-  untouched (DirectoryKind parent subdirectories) = refl
+  untouched : (o : Option ℕ) → touch_of (Some (card_by o)) ≡ None
+  untouched None = refl
+  untouched (Some size) = refl
 
   shown-made : (s : StripeValue) → get s.cards f ≡ None
       → option_map size_shown (get (card_made owner k f s).cards f) ≡ Some (size_in k)
   shown-made s none =
       ap (option_map size_shown) (card-found s none f)
-      ∙ ap (λ (b : Bool). option_map size_shown (if b then Some (card_of_kind k) else get s.cards f)) (itself f)
-      ∙ ap Some (shown-kind k)
+      ∙ ap (λ (b : Bool). option_map size_shown (if b then Some card else get s.cards f)) (itself f)
+      ∙ ap Some (shown-size (size_in k))
 
   -- the owner of a file
-  owner-kind : (a : Attributes) → ownership_of a ≡ owner → (kind : InodeKind) → owner_shown (card_of_kind kind) ≡ owner_by a kind
-  owner-kind a is (RegularFile size filled verifier) = ap Some (sym is)
-  owner-kind a is (DirectoryKind parent subdirectories) = refl
+  owner-size : (a : Attributes) → ownership_of a ≡ owner → (o : Option ℕ) → owner_shown (card_by o) ≡ option_map (λ (size : ℕ). ownership_of a) o
+  owner-size a is None = refl
+  owner-size a is (Some size) = ap Some (sym is)
 
   owner-made : (a : Attributes) → ownership_of a ≡ owner → (s : StripeValue) → get s.cards f ≡ None
       → option_map owner_shown (get (card_made owner k f s).cards f) ≡ Some (owner_by a k)
   owner-made a is s none =
       ap (option_map owner_shown) (card-found s none f)
-      ∙ ap (λ (b : Bool). option_map owner_shown (if b then Some (card_of_kind k) else get s.cards f)) (itself f)
-      ∙ ap Some (owner-kind a is k)
+      ∙ ap (λ (b : Bool). option_map owner_shown (if b then Some card else get s.cards f)) (itself f)
+      ∙ ap Some (owner-size a is (size_in k))
 
   shown-other : (s : StripeValue) → get s.cards f ≡ None → (q : ℕ) → (q == f) ≡ false
       → get (card_made owner k f s).cards q ≡ get s.cards q
-  shown-other s none q ne = card-found s none q ∙ ap (λ (b : Bool). if b then Some (card_of_kind k) else get s.cards q) ne
+  shown-other s none q ne = card-found s none q ∙ ap (λ (b : Bool). if b then Some card else get s.cards q) ne
 
   -- no stripe has a card of a fileid
   abbrev pub HaveNoCard : List StripeValue → Type 0
@@ -122,7 +128,7 @@ module _ (owner : Ownership) (k : InodeKind) (f : ℕ) where
   touch-none (s ∷ stripes) none =
       let here : touch_of (get (card_made owner k f s).cards f) ≡ None =
       ap touch_of (card-found s (none 0 (omega arith)) f)
-      ∙ ap (λ (b : Bool). touch_of (if b then Some (card_of_kind k) else get s.cards f)) (itself f) ∙ untouched k in
+      ∙ ap (λ (b : Bool). touch_of (if b then Some card else get s.cards f)) (itself f) ∙ untouched (size_in k) in
       λ j. later (here j) (touch-none stripes (λ i less. none (suc i) (omega arith)) j)
 
   pub touch-other : (stripes : List StripeValue) → HaveNoCard stripes → (q : ℕ) → (q == f) ≡ false
@@ -152,24 +158,6 @@ module _ (stripes : List StripeValue) (f : ℕ) (none : (b : ℕ) → is_filled 
 -- the volume after a node is made
 abbrev pub made_in : Making → VolumeContents → VolumeContents
 made_in m p = logical_lens.put (node_made m (logical_lens.of p)) p
-
--- the owner of a directory that has more subdirectories
-owner-kept : (more : ℕ) (a b : Attributes) → ownership_of b ≡ ownership_of a → (k : InodeKind)
-    → owner_by b (with_subdirectories more k) ≡ owner_by a k
-owner-kept more a b is (RegularFile size filled verifier) = ap Some is
-owner-kept more a b is (DirectoryKind parent subdirectories) = refl
-
-filled-kept : (more : ℕ) (k : InodeKind) → filled_blocks (with_subdirectories more k) ≡ filled_blocks k
-filled-kept more (RegularFile size filled verifier) = refl
-filled-kept more (DirectoryKind parent subdirectories) = refl
-
-new-empty : (directory largest : ℕ) (k : InodeKind) → IsNewIn directory largest k → filled_blocks k ≡ 0
-new-empty directory largest (RegularFile size filled verifier) h = h.0
-new-empty directory largest (DirectoryKind parent subdirectories) h = refl
-
-new-size : (directory largest : ℕ) (k : InodeKind) → IsNewIn directory largest k → IfSome (size_in k) (λ size. size ≤ largest)
-new-size directory largest (RegularFile size filled verifier) h = h.1
-new-size directory largest (DirectoryKind parent subdirectories) h = tt
 
 module _ (p : VolumeContents) (m : Making) (well : WellFormed p) (may : MayBeMade m p) where
   abbrev f : ℕ
@@ -213,19 +201,19 @@ module _ (p : VolumeContents) (m : Making) (well : WellFormed p) (may : MayBeMad
 
   directory-entries : get directories_after m.directory ≡ Some (added m.name f m.entries)
   directory-entries = names.directory-entries old p.logical.directories m well.logical.inodes may.there may.entered well.logical.named may.absent
-      p.logical.largest may.is_new
+      p.logical.largest may.one may.is_new
 
   made-entries : get directories_after f ≡ new_entries k
   made-entries = names.made-entries old p.logical.directories m well.logical.inodes may.there may.entered well.logical.named may.absent
-      p.logical.largest may.is_new
+      p.logical.largest may.one may.is_new
 
   other-entries : (q : ℕ) → (q == m.directory) ≡ false → (q == f) ≡ false → get directories_after q ≡ get p.logical.directories q
   other-entries = names.other-entries old p.logical.directories m well.logical.inodes may.there may.entered well.logical.named may.absent
-      p.logical.largest may.is_new
+      p.logical.largest may.one may.is_new
 
   named-made : AreNamed new.inodes directories_after
   named-made = names.named-made old p.logical.directories m well.logical.inodes may.there may.entered well.logical.named may.absent
-      p.logical.largest may.is_new
+      p.logical.largest may.one may.is_new
 
   nothing : inode_of old f ≡ None
   nothing = next-absent old well.logical.inodes
@@ -279,7 +267,8 @@ module _ (p : VolumeContents) (m : Making) (well : WellFormed p) (may : MayBeMad
       (λ q. option_map owner_shown (get (card_made owner k f s).cards q) ≡ option_map owner_in (inode_of new q))
       (ap (option_map owner_shown) (shown-other owner k f s none m.directory (apart))
       ∙ fits m.directory ∙ ap (option_map owner_in) may.there
-      ∙ ap Some (sym (owner-kept (directories_in k) m.inode.attributes (directory_inode m).attributes refl m.inode.kind))
+      ∙ ap Some (sym (owner-alike m.inode.attributes (directory_inode m).attributes m.inode.kind (directory_inode m).kind refl
+      (names.size-kept (directories_in k) m.inode.kind)))
       ∙ sym (ap (option_map owner_in) (at-directory)))
       (owner-made owner k f m.made.attributes refl s none ∙ sym (ap (option_map owner_in) (at-made)))
       (λ q ne older. ap (option_map owner_shown) (shown-other owner k f s none q older) ∙ fits q
@@ -309,14 +298,14 @@ module _ (p : VolumeContents) (m : Making) (well : WellFormed p) (may : MayBeMad
   }
 
   empty : filled_blocks k ≡ 0
-  empty = new-empty m.directory p.logical.largest k may.is_new
+  empty = may.is_new.blocks
 
   filled-after : (q : ℕ) (x : Inode) → inode_of new q ≡ Some x → filled_blocks x.kind ≡ sets.len (file_filled after.stripes q)
   filled-after = by-fileid
       (λ q. (x : Inode) → inode_of new q ≡ Some x → filled_blocks x.kind ≡ sets.len (file_filled after.stripes q))
       (λ x e.
       let is : directory_inode m ≡ x = (let at = at-directory in cc) in
-      ap (λ (i : Inode). filled_blocks i.kind) (sym is) ∙ filled-kept (directories_in k) m.inode.kind ∙ well.filled m.directory m.inode may.there
+      ap (λ (i : Inode). filled_blocks i.kind) (sym is) ∙ names.blocks-kept (directories_in k) m.inode.kind ∙ well.filled m.directory m.inode may.there
       ∙ sym (ap sets.len (stay m.directory)))
       (λ x e.
       let is : m.made ≡ x = (let at = at-made in cc) in
@@ -327,6 +316,33 @@ module _ (p : VolumeContents) (m : Making) (well : WellFormed p) (may : MayBeMad
     where
       stay : (q : ℕ) → file_filled after.stripes q ≡ file_filled p.stripes q
       stay q = blocks.filled-stays (card_made owner k f) (blocks-same owner k f) p.stripes q
+
+  -- the texts: one more, if it is a symbolic link
+  pub made-text : get after.logical.texts f ≡ m.text
+  made-text = by m.text
+    where
+      none-there : (o : Option (List ℕ)) → option_map length o ≡ None → o ≡ None
+      none-there None e = refl
+      none-there (Some text) e = absurd cc
+
+      by : (t : Option (List ℕ)) → get (texts_made t f p.logical.texts) f ≡ t
+      by None = none-there (get p.logical.texts f) (well.logical.texts f ∙ ap text_length_of nothing)
+      by (Some text) =
+          get-insert_at p.logical.texts f text f ∙ ap (λ (b : Bool). if b then Some text else get p.logical.texts f) (itself f)
+
+  pub other-text : (q : ℕ) → (q == f) ≡ false → get after.logical.texts q ≡ get p.logical.texts q
+  other-text q older = by m.text
+    where
+      by : (t : Option (List ℕ)) → get (texts_made t f p.logical.texts) q ≡ get p.logical.texts q
+      by None = refl
+      by (Some text) = get-insert_at p.logical.texts f text q ∙ ap (λ (b : Bool). if b then Some text else get p.logical.texts q) older
+
+  texts-made : (q : ℕ) → option_map length (get after.logical.texts q) ≡ text_length_of (inode_of new q)
+  texts-made = by-fileid (λ q. option_map length (get after.logical.texts q) ≡ text_length_of (inode_of new q))
+      (ap (option_map length) (other-text m.directory apart) ∙ well.logical.texts m.directory ∙ ap text_length_of may.there
+      ∙ sym (ap text_length_of at-directory ∙ kinds.text-changed (λ parent. parent) (λ n. n + directories_in k) m.inode.kind))
+      (ap (option_map length) made-text ∙ may.text ∙ sym (ap text_length_of at-made))
+      (λ q ne older. ap (option_map length) (other-text q older) ∙ well.logical.texts q ∙ sym (ap text_length_of (at-other q ne older)))
 
   created-lawful : (inode_of (inode_created m.made old) m.directory ≡ Some m.inode)
   created-lawful = inode-created-other old m.made m.directory (apart) ∙ may.there
@@ -346,6 +362,7 @@ module _ (p : VolumeContents) (m : Making) (well : WellFormed p) (may : MayBeMad
           omega (arith, set, more, few);
       sizes = λ q. size-after q (q == f) refl;
       named = named-made;
+      texts = texts-made;
     };
     as_many = length-map p.stripes (card_made owner k f) ∙ well.as_many;
     stripes = λ i less.
@@ -355,7 +372,7 @@ module _ (p : VolumeContents) (m : Making) (well : WellFormed p) (may : MayBeMad
         (fits-after i (stripe_at p.stripes i) (no-card i on) (well.stripes i on));
     used =
         let same = used-set-same (inode_created m.made old) m.directory m.inode (directory_inode m) (created-is old m.made well.logical.inodes)
-        created-lawful (filled-kept (directories_in k) m.inode.kind) in
+        created-lawful (names.blocks-kept (directories_in k) m.inode.kind) in
         let was = well.used in
         let none = empty in
         let blocks = blocks.total-mapped (card_made owner k f) (λ (s : StripeValue). len s.blocks) (λ s. ap (λ x. len x) (blocks-same owner k f s)) p.stripes in
@@ -370,7 +387,7 @@ module _ (p : VolumeContents) (m : Making) (well : WellFormed p) (may : MayBeMad
       size-after q true e =
           subst (λ o. IfSome (size_of o) (λ size. size ≤ p.logical.largest))
           (sym (ap (λ (x : ℕ). inode_of new x) (eqb-true q f e) ∙ at-made))
-          (new-size m.directory p.logical.largest k may.is_new)
+          may.is_new.size
       size-after q false e =
           subst (λ o. IfSome o (λ size. size ≤ p.logical.largest))
           (sym (size-same q e)) (well.logical.sizes q)
@@ -392,7 +409,7 @@ module _ (p : VolumeContents) (m : Making) (well : WellFormed p) (may : MayBeMad
           let is : m.entries.next + 1 ≡ d.next = ap (λ (x : DirectoryValue). x.next) same in
           let y = s.young.cookies m.directory m.entries may.entered in
           omega (arith, is, y))
-          (λ d e. made-cookies k d (sym (made-entries) ∙ e))
+          (λ d e. made-cookies (is_some (parent_in k)) d (sym (made-entries) ∙ e))
           (λ q ne older d e.
           let y = s.young.cookies q d (sym (other-entries q ne older) ∙ e) in
           omega (arith, y));
@@ -405,9 +422,9 @@ module _ (p : VolumeContents) (m : Making) (well : WellFormed p) (may : MayBeMad
         omega (arith, e, o, stripes);
   }
     where
-      made-cookies : (kind : InodeKind) (d : DirectoryValue) → new_entries kind ≡ Some d → d.next ≤ 3 + (made + 1)
-      made-cookies (RegularFile size filled verifier) d e = absurd cc
-      made-cookies (DirectoryKind parent subdirectories) d e =
+      made-cookies : (b : Bool) (d : DirectoryValue) → (if b then Some empty_directory else None) ≡ Some d → d.next ≤ 3 + (made + 1)
+      made-cookies false d e = absurd cc
+      made-cookies true d e =
           let same : empty_directory ≡ d = cc in
           let is : 3 ≡ d.next = ap (λ (x : DirectoryValue). x.next) same in
           omega (arith, is)

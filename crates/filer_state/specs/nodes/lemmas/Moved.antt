@@ -1,7 +1,7 @@
 -- A node that moves to another name: all stays sound, and so the volume is seen.
 use Rattle.std.proofs.Common.{◌≡◌, ℕ, ◌+◌, ◌<◌, ◌≤◌, ◌==◌, Bool, true, false, List, length, Option, Some, None}
 use Rattle.std.proofs.Common.{refl, sym, ap, ◌∙◌, subst, arith}
-use Rattle.std.specs.Prelude.{IfSome}
+use Rattle.std.specs.Prelude.{IfSome, ◌-◌}
 use Rattle.std.proofs.lemmas.List.{length-map}
 use Rattle.std.proofs.lemmas.Bool.{eqb-true}
 use Rattle.std.specs.Option.{option_map}
@@ -9,21 +9,20 @@ use Rattle.std.specs.FinMap.{get, len}
 use Rattle.std.specs.FinSet as sets
 use Rattle.nfs_model.specs.Types.{Moment}
 use Rattle.nfs_model.specs.Server.{Attributes}
-use Rattle.nfs_model.specs.Shown.{effective_attributes}
-use Rattle.nfs_model.specs.Serial.Rights.{ownership_of}
 use Rattle.nfs_model.specs.Parts.{Hand}
 use Rattle.depot_rule.specs.Sums.{total}
 use Rattle.nfs_model.specs.volume.Directories.{DirectoryValue, added, removed}
-use Rattle.nfs_model.specs.volume.Inodes.{InodeKind, RegularFile, DirectoryKind, Inode, InodesValue, IsInodes, filled_blocks, inode_of, inode_set}
+use Rattle.nfs_model.specs.volume.Inodes.{InodeKind, Inode, InodesValue, IsInodes, filled_blocks, inode_of, inode_set}
 use Rattle.nfs_model.specs.volume.Stripes.{StripeValue, touch_taken}
 use Rattle.nfs_model.specs.volume.lemmas.Inodes.{len-set, set-is, next-set, used-set-same, inode-set-there, inode-set-other}
 use Rattle.filer_state.specs.state.Contents.{VolumeContents}
 use Rattle.filer_state.specs.state.Tree.{stripe_at, file_filled, file_touch}
-use Rattle.filer_state.specs.state.Names.{DirectoryMap, size_in, size_of, AreNamed}
+use Rattle.filer_state.specs.state.Names.{DirectoryMap, size_in, size_of, AreNamed, text_length_in, text_length_of, names_of}
 use Rattle.filer_state.specs.state.WellFormed.{StripeFits, WellFormed, owner_by, owner_in}
 use Rattle.filer_state.specs.state.Partition.{times_in_stripe, times_in_hand}
 use Rattle.filer_state.specs.state.Sound.{IsSound}
 use Rattle.filer_state.specs.state.Changes.{attributes_now, touches_taken}
+use Rattle.filer_state.specs.laws.lemmas.InodeKinds as kinds
 use Rattle.filer_state.specs.laws.lemmas.SameBlocks as blocks
 use Rattle.filer_state.specs.attributes.lemmas.Kept.{shown-stays, owner-stays}
 use Rattle.filer_state.specs.nodes.Making.{directories_in, with_subdirectories}
@@ -32,7 +31,7 @@ use Rattle.filer_state.specs.nodes.Moving.{Naming, dated_inode, inodes_untied, e
 use Rattle.filer_state.specs.nodes.Laws.{StandsUnder, MayHang, moved_in}
 use Rattle.filer_state.specs.nodes.lemmas.Named as made
 use Rattle.filer_state.specs.nodes.lemmas.Unnamed as unnamed
-use Rattle.filer_state.specs.nodes.lemmas.Untied.{AreNamedBut, named-untied, untied-entries, untied-others}
+use Rattle.filer_state.specs.nodes.lemmas.Untied.{AreNamedBut, names-same, named-untied, untied-entries, untied-others}
 use Rattle.filer_state.specs.nodes.lemmas.Hung.{named-hung, hung-entries, hung-others, still}
 
 -- ---- inodes that keep their sizes and blocks
@@ -45,6 +44,7 @@ filled_of inode = filled_blocks inode.kind
 
 -- the same inodes but for times and places in the tree
 pub record SameFiles (new old : InodesValue) : Type 0 where
+  pub lengths : (q : ℕ) → text_length_of (inode_of new q) ≡ text_length_of (inode_of old q)
   pub sizes : (q : ℕ) → option_map shown_size (inode_of new q) ≡ option_map shown_size (inode_of old q)
   pub owners : (q : ℕ) → option_map owner_in (inode_of new q) ≡ option_map owner_in (inode_of old q)
   pub blocks : (q : ℕ) → option_map filled_of (inode_of new q) ≡ option_map filled_of (inode_of old q)
@@ -53,8 +53,9 @@ pub record SameFiles (new old : InodesValue) : Type 0 where
   pub few : len new.inodes ≡ len old.inodes
   pub lawful : IsInodes old → IsInodes new
 
-same-then : (a b c : InodesValue) → SameFiles c b → SameFiles b a → SameFiles c a
+pub same-then : (a b c : InodesValue) → SameFiles c b → SameFiles b a → SameFiles c a
 same-then a b c two one = record {
+  lengths = λ q. two.lengths q ∙ one.lengths q;
   sizes = λ q. two.sizes q ∙ one.sizes q;
   owners = λ q. two.owners q ∙ one.owners q;
   blocks = λ q. two.blocks q ∙ one.blocks q;
@@ -65,10 +66,11 @@ same-then a b c two one = record {
 }
 
 -- an inode set of a file of the same size and blocks, or of a directory
-same-set : (v : InodesValue) (fileid : ℕ) (old inode : Inode) → IsInodes v → inode_of v fileid ≡ Some old
+pub same-set : (v : InodesValue) (fileid : ℕ) (old inode : Inode) → IsInodes v → inode_of v fileid ≡ Some old
     → size_in inode.kind ≡ size_in old.kind → owner_in inode ≡ owner_in old → filled_blocks inode.kind ≡ filled_blocks old.kind
-    → SameFiles (inode_set fileid inode v) v
-same-set v fileid old inode is there size owner filled = record {
+    → text_length_in inode.kind ≡ text_length_in old.kind → SameFiles (inode_set fileid inode v) v
+same-set v fileid old inode is there size owner filled text = record {
+  lengths = λ q. length-by q (q == fileid) refl;
   sizes = λ q. by shown_size size q (q == fileid) refl;
   owners = λ q. by owner_in owner q (q == fileid) refl;
   blocks = λ q. by filled_of filled q (q == fileid) refl;
@@ -85,6 +87,13 @@ same-set v fileid old inode is there size owner filled = record {
         ∙ ap (option_map g) (inode-set-there v fileid old inode there) ∙ ap Some same
         ∙ sym (ap (λ (k : ℕ). option_map g (inode_of v k)) (eqb-true q fileid e) ∙ ap (option_map g) there)
     by g same q false e = ap (option_map g) (inode-set-other v fileid inode q e)
+
+    length-by : (q : ℕ) (b : Bool) → (q == fileid) ≡ b → text_length_of (inode_of (inode_set fileid inode v) q) ≡ text_length_of (inode_of v q)
+    length-by q true e =
+        ap (λ (k : ℕ). text_length_of (inode_of (inode_set fileid inode v) k)) (eqb-true q fileid e)
+        ∙ ap text_length_of (inode-set-there v fileid old inode there) ∙ text
+        ∙ sym (ap (λ (k : ℕ). text_length_of (inode_of v k)) (eqb-true q fileid e) ∙ ap text_length_of there)
+    length-by q false e = ap text_length_of (inode-set-other v fileid inode q e)
 
 abbrev size_found : Option (Option ℕ) → Option ℕ
 size_found None = None
@@ -142,6 +151,7 @@ module _ (p : VolumeContents) (inodes : InodesValue) (directories : DirectoryMap
       few = let count = same.few in let few = well.logical.few in omega (arith, count, few);
       sizes = λ q. subst (λ o. IfSome o (λ size. size ≤ p.logical.largest)) (sym (size-same q)) (well.logical.sizes q);
       named = named;
+      texts = λ q. well.logical.texts q ∙ sym (same.lengths q);
     };
     as_many = length-map p.stripes (touch_taken f) ∙ well.as_many;
     stripes = λ i less.
@@ -156,7 +166,7 @@ module _ (p : VolumeContents) (inodes : InodesValue) (directories : DirectoryMap
     ranges = well.ranges;
   }
 
-  sound-then : (hands hands' : List Hand) (made now : ℕ) → made ≤ now
+  pub sound-then : (hands hands' : List Hand) (made now : ℕ) → made ≤ now
       → ((n : ℕ) → total (times_in_hand p.number n) hands' ≡ total (times_in_hand p.number n) hands)
       → ((q : ℕ) (d : DirectoryValue) → get directories q ≡ Some d → d.next ≤ 3 + now)
       → IsSound p hands made → IsSound then_volume hands' now
@@ -175,45 +185,27 @@ module _ (p : VolumeContents) (inodes : InodesValue) (directories : DirectoryMap
 
 -- ---- a node moved
 
-size-with : (parent : ℕ) (k : InodeKind) → size_in (with_parent parent k) ≡ size_in k
-size-with parent (RegularFile size filled verifier) = refl
-size-with parent (DirectoryKind old subdirectories) = refl
+-- the node has as many names as before its entry was taken
+pub node-names : (p : VolumeContents) (from to : Naming) → StandsUnder from p.logical.inodes p.logical.directories
+    → MayHang to (inodes_untied from p.logical.inodes) (entries_untied from p.logical.directories) → to.fileid ≡ from.fileid
+    → to.node.names ≡ from.node.names
+node-names p from to stands may one =
+    sym (ap names_of (ap (λ (k : ℕ). inode_of (inodes_untied from p.logical.inodes) k) (sym one) ∙ may.node))
+    ∙ names-same p.logical.inodes p.logical.directories from stands from.fileid ∙ ap names_of stands.node
 
--- the owner stays: where a node settles and has another parent, and of a directory with more or fewer subdirectories
-owner-effective : (touch : Option Moment) (a : Attributes) → ownership_of (effective_attributes touch a) ≡ ownership_of a
-owner-effective None a = refl
-owner-effective (Some moment) a = refl
+pub size-with : (parent : ℕ) (k : InodeKind) → size_in (with_parent parent k) ≡ size_in k
+size-with parent k = kinds.size-changed (λ old. parent) (λ n. n) k
 
-owner-with : (parent : ℕ) (touch : Option Moment) (moment : Moment) (a : Attributes) (k : InodeKind)
+-- the owner stays where a node settles and has another parent
+pub owner-with : (parent : ℕ) (touch : Option Moment) (moment : Moment) (a : Attributes) (k : InodeKind)
     → owner_by (record (attributes_now touch a k) { ctime = moment }) (with_parent parent k) ≡ owner_by a k
-owner-with parent touch moment a (RegularFile size filled verifier) = ap Some (owner-effective touch a)
-owner-with parent touch moment a (DirectoryKind old subdirectories) = refl
-
-owner-more : (more : ℕ) (a b : Attributes) → ownership_of b ≡ ownership_of a → (k : InodeKind)
-    → owner_by b (with_subdirectories more k) ≡ owner_by a k
-owner-more more a b is (RegularFile size filled verifier) = ap Some is
-owner-more more a b is (DirectoryKind parent subdirectories) = refl
-
-owner-less : (fewer : ℕ) (a b : Attributes) → ownership_of b ≡ ownership_of a → (k : InodeKind)
-    → owner_by b (without_subdirectories fewer k) ≡ owner_by a k
-owner-less fewer a b is (RegularFile size filled verifier) = ap Some is
-owner-less fewer a b is (DirectoryKind parent subdirectories) = refl
-
-filled-with : (parent : ℕ) (k : InodeKind) → filled_blocks (with_parent parent k) ≡ filled_blocks k
-filled-with parent (RegularFile size filled verifier) = refl
-filled-with parent (DirectoryKind old subdirectories) = refl
-
-filled-more : (more : ℕ) (k : InodeKind) → filled_blocks (with_subdirectories more k) ≡ filled_blocks k
-filled-more more (RegularFile size filled verifier) = refl
-filled-more more (DirectoryKind parent subdirectories) = refl
-
-filled-less : (fewer : ℕ) (k : InodeKind) → filled_blocks (without_subdirectories fewer k) ≡ filled_blocks k
-filled-less fewer (RegularFile size filled verifier) = refl
-filled-less fewer (DirectoryKind parent subdirectories) = refl
+owner-with parent touch moment a k = kinds.owner-alike a (record (attributes_now touch a k) { ctime = moment }) k (with_parent parent k)
+    (kinds.owner-now touch a k) (size-with parent k)
 
 module _ (p : VolumeContents) (from to : Naming) (well : WellFormed p)
     (stands : StandsUnder from p.logical.inodes p.logical.directories)
-    (may : MayHang to (inodes_untied from p.logical.inodes) (entries_untied from p.logical.directories)) (one : to.fileid ≡ from.fileid) where
+    (may : MayHang to (inodes_untied from p.logical.inodes) (entries_untied from p.logical.directories)) (one : to.fileid ≡ from.fileid)
+    (as_many : to.names ≡ from.node.names) where
   abbrev touch : Option Moment
   touch = file_touch p.stripes to.fileid
 
@@ -226,7 +218,10 @@ module _ (p : VolumeContents) (from to : Naming) (well : WellFormed p)
   same-taken : SameFiles taken p.logical.inodes
   same-taken = same-set p.logical.inodes from.directory from.inode untied well.logical.inodes stands.there
       (unnamed.size-kept (directories_in from.node.kind) from.inode.kind)
-      (owner-less (directories_in from.node.kind) from.inode.attributes untied.attributes refl from.inode.kind) (filled-less (directories_in from.node.kind) from.inode.kind)
+      (kinds.owner-alike from.inode.attributes untied.attributes from.inode.kind untied.kind refl
+      (unnamed.size-kept (directories_in from.node.kind) from.inode.kind))
+      (unnamed.blocks-kept (directories_in from.node.kind) from.inode.kind)
+      (kinds.text-changed (λ parent. parent) (λ n. n - directories_in from.node.kind) from.inode.kind)
 
   abbrev dated : Inode
   dated = dated_inode to.moment (with_subdirectories (directories_in to.node.kind) to.inode.kind) to.inode
@@ -234,13 +229,18 @@ module _ (p : VolumeContents) (from to : Naming) (well : WellFormed p)
   same-dated : SameFiles (inode_set to.directory dated taken) taken
   same-dated = same-set taken to.directory to.inode dated (same-taken.lawful well.logical.inodes) may.there
       (made.size-kept (directories_in to.node.kind) to.inode.kind)
-      (owner-more (directories_in to.node.kind) to.inode.attributes dated.attributes refl to.inode.kind) (filled-more (directories_in to.node.kind) to.inode.kind)
+      (kinds.owner-alike to.inode.attributes dated.attributes to.inode.kind dated.kind refl
+      (made.size-kept (directories_in to.node.kind) to.inode.kind))
+      (made.blocks-kept (directories_in to.node.kind) to.inode.kind)
+      (kinds.text-changed (λ parent. parent) (λ n. n + directories_in to.node.kind) to.inode.kind)
 
   same-hung : SameFiles (inodes_hung to touch taken) (inode_set to.directory dated taken)
   same-hung = same-set (inode_set to.directory dated taken) to.fileid to.node (node_hung to touch)
       (same-dated.lawful (same-taken.lawful well.logical.inodes))
       (still taken (entries_untied from p.logical.directories) to touch may) (size-with to.directory to.node.kind)
-      (owner-with to.directory touch to.moment to.node.attributes to.node.kind) (filled-with to.directory to.node.kind)
+      (owner-with to.directory touch to.moment to.node.attributes to.node.kind)
+      (kinds.blocks-changed (λ old. to.directory) (λ n. n) to.node.kind)
+      (kinds.text-changed (λ old. to.directory) (λ n. n) to.node.kind)
 
   same-all : SameFiles (inodes_hung to touch taken) p.logical.inodes
   same-all = same-then p.logical.inodes taken (inodes_hung to touch taken)
@@ -248,8 +248,9 @@ module _ (p : VolumeContents) (from to : Naming) (well : WellFormed p)
 
   named-moved : AreNamed (inodes_hung to touch taken).inodes (entries_hung to (entries_untied from p.logical.directories))
   named-moved = named-hung taken (entries_untied from p.logical.directories) to touch may
-      (subst (λ (f : ℕ). AreNamedBut f taken.inodes (entries_untied from p.logical.directories)) (sym one)
-      (named-untied p.logical.inodes p.logical.directories from stands well.logical.named))
+      (subst (λ (f : ℕ). AreNamedBut f to.names taken.inodes (entries_untied from p.logical.directories)) (sym one)
+      (subst (λ (n : ℕ). AreNamedBut from.fileid n taken.inodes (entries_untied from p.logical.directories)) (sym as_many)
+      (named-untied p.logical.inodes p.logical.directories from stands well.logical.named)))
 
   -- cookies: one more was given
   cookies-moved : (now : ℕ) → ((q : ℕ) (d : DirectoryValue) → get p.logical.directories q ≡ Some d → d.next + 1 ≤ 3 + now)

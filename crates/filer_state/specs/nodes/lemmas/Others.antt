@@ -24,6 +24,15 @@ by-two a b P one two others = by-one a P one (λ q ne. by-one b (λ r. (r == a) 
 abbrev pub IsChildOf : InodeMap → ℕ → Listed → Type 0
 IsChildOf inodes fileid e = IfSome (parent_directory (get inodes e.fileid)) (λ parent. parent ≡ fileid)
 
+-- inodes that show the same parents
+pub children-alike : (new old : InodeMap) → ((q : ℕ) → parent_directory (get new q) ≡ parent_directory (get old q))
+    → (fileid : ℕ) (list : List Listed) → AllByRecursion (IsChildOf old fileid) list → AllByRecursion (IsChildOf new fileid) list
+children-alike new old same fileid [] all = tt
+children-alike new old same fileid (e ∷ list) all = (
+  subst (λ o. IfSome o (λ parent. parent ≡ fileid)) (sym (same e.fileid)) all.0,
+  children-alike new old same fileid list all.1,
+)
+
 -- inodes of which all but one show the parents that they showed
 module _ (new old : InodeMap) (f : ℕ) (same : (q : ℕ) → (q == f) ≡ false → parent_directory (get new q) ≡ parent_directory (get old q)) where
   -- a fileid that doesn't stand in a list is no entry's

@@ -16,14 +16,15 @@ use Rattle.nfs_model.specs.Parts.{Hand, one_if, times_listed}
 use Rattle.depot_rule.specs.Sums.{total}
 use Rattle.nfs_model.specs.Types.{Ownership}
 use Rattle.nfs_model.specs.Serial.Rights.{ownership_of}
-use Rattle.nfs_model.specs.volume.Inodes.{RegularFile, Inode, InodesValue, filled_blocks, inode_of, inode_set}
+use Rattle.nfs_model.specs.volume.Inodes.{Inode, InodesValue, filled_blocks, inode_of, inode_set}
 use Rattle.nfs_model.specs.volume.Stripes.{Card, OfFile, OfDirectory, Block, StripeValue, byte_cut, block_mapped, card_settled, touch_taken}
 use Rattle.nfs_model.specs.volume.Stripes.{touch_of, stripe_of, is_filled, numbers_freed}
 use Rattle.nfs_model.specs.volume.lemmas.Inodes.{inode-set-there, inode-set-other, next-set, used-set, len-set, set-is}
 use Rattle.nfs_model.specs.volume.lemmas.Numbered.{get-insert_at, get-changed_at, itself}
 use Rattle.filer_state.specs.state.Contents.{VolumeContents}
 use Rattle.filer_state.specs.state.Tree.{stripe_at, home_stripe, file_filled, most_file_blocks, ranges_used}
-use Rattle.filer_state.specs.state.Names.{size_in, size_of, parent_directory, subdirectories_of}
+use Rattle.filer_state.specs.state.Names.{size_in, size_of, parent_directory, subdirectories_of, names_of, text_length_in, text_length_of}
+use Rattle.filer_state.specs.state.Kinds.{IsFile}
 use Rattle.filer_state.specs.state.WellFormed.{StripeFits, BlockFits, WellFormed, IsLargest, size_shown, owner_shown, owner_by, owner_in}
 use Rattle.filer_state.specs.state.Partition.{times_in_stripe, times_in_hand}
 use Rattle.filer_state.specs.state.Sound.{IsSound}
@@ -113,7 +114,7 @@ largest-blocks largest size block is most less =
     let whole = is.is in let few = is.most in omega (arith, whole, few, most, less)
 
 module _ (p : VolumeContents) (m : Sizing) (well : WellFormed p) (there : get p.logical.inodes.inodes m.fileid ≡ Some m.inode)
-    (old_size filled : ℕ) (verifier : Option (List ℕ)) (is_file : m.inode.kind ≡ RegularFile old_size filled verifier)
+    (old_size filled : ℕ) (verifier : Option (List ℕ)) (is_file : IsFile m.inode.kind old_size filled verifier)
     (small : m.size ≤ p.logical.largest) where
   abbrev f : ℕ
   f = m.fileid
@@ -137,7 +138,7 @@ module _ (p : VolumeContents) (m : Sizing) (well : WellFormed p) (there : get p.
   abbrev after : VolumeContents
   after = sized_in m p
 
-  kind-after : next_inode.kind ≡ RegularFile m.size (filled - fewer) verifier
+  kind-after : IsFile next_inode.kind m.size (filled - fewer) verifier
   kind-after = ap (kind_sized m.size fewer) is_file
 
   at-file : inode_of new f ≡ Some next_inode
@@ -153,6 +154,16 @@ module _ (p : VolumeContents) (m : Sizing) (well : WellFormed p) (there : get p.
   size-after : size_of (inode_of new f) ≡ Some m.size
   size-after = ap size_of at-file ∙ ap size_in kind-after
 
+  counts : (q : ℕ) → names_of (inode_of new q) ≡ names_of (inode_of old q)
+  counts = by-fileid (λ q. names_of (inode_of new q) ≡ names_of (inode_of old q))
+      (ap names_of at-file ∙ sym (ap names_of there))
+      (λ q ne. ap names_of (at-other q ne))
+
+  lengths : (q : ℕ) → text_length_of (inode_of new q) ≡ text_length_of (inode_of old q)
+  lengths = by-fileid (λ q. text_length_of (inode_of new q) ≡ text_length_of (inode_of old q))
+      (ap text_length_of at-file ∙ ap text_length_in kind-after ∙ sym (ap text_length_of there ∙ ap text_length_in is_file))
+      (λ q ne. ap text_length_of (at-other q ne))
+
   places : SamePlaces new.inodes old.inodes
   places = record {
     parents = by-fileid (λ q. parent_directory (inode_of new q) ≡ parent_directory (inode_of old q))
@@ -163,9 +174,6 @@ module _ (p : VolumeContents) (m : Sizing) (well : WellFormed p) (there : get p.
         (ap subdirectories_of at-file ∙ ap (λ k. subdirectories_of (Some (record next_inode { kind = k }))) kind-after
         ∙ sym (ap subdirectories_of there ∙ ap (λ k. subdirectories_of (Some (record m.inode { kind = k }))) is_file))
         (λ q ne. ap subdirectories_of (at-other q ne));
-    there = by-fileid (λ q. is_some (inode_of new q) ≡ is_some (inode_of old q))
-        (ap (λ o. is_some o) at-file ∙ sym (ap (λ o. is_some o) there))
-        (λ q ne. ap (λ o. is_some o) (at-other q ne));
   }
 
   -- ---- stripes
@@ -339,7 +347,8 @@ module _ (p : VolumeContents) (m : Sizing) (well : WellFormed p) (there : get p.
       sizes = by-fileid (λ q. IfSome (size_of (inode_of new q)) (λ size. size ≤ p.logical.largest))
           (subst (λ o. IfSome o (λ size. size ≤ p.logical.largest)) (sym size-after) small)
           (λ q ne. subst (λ o. IfSome (size_of o) (λ size. size ≤ p.logical.largest)) (sym (at-other q ne)) (well.logical.sizes q));
-      named = named-same new.inodes old.inodes places p.logical.directories well.logical.named;
+      named = named-same new.inodes old.inodes places counts p.logical.directories well.logical.named;
+      texts = λ q. well.logical.texts q ∙ sym (lengths q);
     };
     as_many = many-after ∙ well.as_many;
     stripes = λ i less.

@@ -16,15 +16,16 @@ use Rattle.std.specs.FinSet.{contains, retain, contains-retain}
 use Rattle.nfs_model.specs.Server.{Node, File, FileNode, block_size}
 use Rattle.nfs_model.specs.Serial.Rights.{ownership_of}
 use Rattle.nfs_model.specs.Serial.Setattr.{resized_bytes, with_node}
-use Rattle.nfs_model.specs.volume.Inodes.{InodeKind, RegularFile, DirectoryKind, Inode, InodesValue, inode_of}
+use Rattle.nfs_model.specs.volume.Inodes.{Inode, InodesValue, inode_of}
 use Rattle.nfs_model.specs.volume.Stripes.{OfFile, Block, StripeValue, byte_of, byte_cut, block_mapped, touch_of, stripe_of, is_filled}
 use Rattle.nfs_model.specs.volume.lemmas.Inodes.{inode-set-there, inode-set-other, next-set}
 use Rattle.nfs_model.specs.volume.lemmas.Maps.{get-map_values}
 use Rattle.nfs_model.specs.volume.lemmas.Numbered.{get-insert_at, same-answers, itself}
 use Rattle.filer_state.specs.state.Contents.{VolumeContents}
-use Rattle.filer_state.specs.state.Tree.{stripe_at, home_stripe, file_byte, file_bytes, file_filled, file_touch, later, most_file_blocks, node_by, node_of}
-use Rattle.filer_state.specs.state.Tree.{volume_of}
+use Rattle.filer_state.specs.state.Tree.{stripe_at, home_stripe, file_byte, file_bytes, file_filled, file_touch, later, most_file_blocks, node_by, node_of, text_or_empty}
+use Rattle.filer_state.specs.state.Tree.{directory_or_empty, node_with, volume_of}
 use Rattle.filer_state.specs.state.Names.{size_of, size_in}
+use Rattle.filer_state.specs.state.Kinds.{IsFile}
 use Rattle.filer_state.specs.state.WellFormed.{WellFormed}
 use Rattle.filer_state.specs.laws.lemmas.SameBlocks.{stripe-mapped}
 use Rattle.filer_state.specs.nodes.Sizing.{Sizing, stripe_sized, all_freed, kind_sized, inode_sized}
@@ -79,7 +80,7 @@ resized-range g h old size same none =
 -- ---- the volume after it
 
 module _ (p : VolumeContents) (m : Sizing) (well : WellFormed p) (there : get p.logical.inodes.inodes m.fileid ≡ Some m.inode)
-    (old_size filled : ℕ) (verifier : Option (List ℕ)) (is_file : m.inode.kind ≡ RegularFile old_size filled verifier)
+    (old_size filled : ℕ) (verifier : Option (List ℕ)) (is_file : IsFile m.inode.kind old_size filled verifier)
     (small : m.size ≤ p.logical.largest) where
   abbrev f : ℕ
   f = m.fileid
@@ -192,26 +193,27 @@ module _ (p : VolumeContents) (m : Sizing) (well : WellFormed p) (there : get p.
   -- ---- nodes
 
   abbrev now : ℕ → Inode → Node
-  now = node_of after.stripes after.logical.directories
+  now = node_of after.stripes after.logical.directories after.logical.texts
 
   abbrev was : ℕ → Inode → Node
-  was = node_of p.stripes p.logical.directories
+  was = node_of p.stripes p.logical.directories p.logical.texts
 
   abbrev file_was : FileNode
   file_was = file_seen p m old_size verifier
 
   pub was-file : was f m.inode ≡ File file_was
-  was-file = ap (node_by p.stripes (get p.logical.directories f) f m.inode.attributes) is_file
+  was-file = ap (node_by p.stripes (get p.logical.directories f) (get p.logical.texts f) f m.inode.attributes m.inode.names) is_file
 
   is-file : now f next_inode ≡ File (file_resized m.size m.attributes file_was)
   is-file =
-      ap (λ k. node_by after.stripes (get p.logical.directories f) f m.attributes (kind_sized m.size (length (all_freed f m.size p.stripes)) k)) is_file
+      ap (λ k. node_by after.stripes (get p.logical.directories f) (get p.logical.texts f) f m.attributes m.inode.names (kind_sized m.size (length (all_freed f m.size p.stripes)) k)) is_file
       ∙ (λ j. File (record {
         attributes = m.attributes;
         bytes = bytes-after j;
         filled = filled-after j;
         touch = touch-gone p.stripes j;
         verifier = verifier;
+        links = m.inode.names;
       }))
 
   byte-other : (q : ℕ) → (q == f) ≡ false → (k : ℕ) → file_byte after.stripes q k ≡ file_byte p.stripes q k
@@ -220,18 +222,10 @@ module _ (p : VolumeContents) (m : Sizing) (well : WellFormed p) (there : get p.
       ∙ ap (λ o. byte_of o (k % block_size)) (cut-other f m.size (home_stripe p.stripes q (k / block_size)) q (k / block_size) ne)
 
   other-node : (q : ℕ) → (q == f) ≡ false → (inode : Inode) → now q inode ≡ was q inode
-  other-node q ne inode = by inode.kind
-    where
-      by : (kind : InodeKind) → node_by after.stripes (get p.logical.directories q) q inode.attributes kind
-          ≡ node_by p.stripes (get p.logical.directories q) q inode.attributes kind
-      by (RegularFile size blocks other) = λ j. File (record {
-        attributes = inode.attributes;
-        bytes = map (λ k. byte-other q ne k j) (range_with_len 0 size);
-        filled = filled-other p m well there old_size filled verifier is_file small q ne j;
-        touch = touch-other p.stripes q ne j;
-        verifier = other;
-      })
-      by (DirectoryKind parent subdirectories) = refl
+  other-node q ne inode = λ j. node_with
+      (λ size. map (λ k. byte-other q ne k j) (range_with_len 0 size)) (filled-other p m well there old_size filled verifier is_file small q ne j)
+      (touch-other p.stripes q ne j) (directory_or_empty (get p.logical.directories q)) (text_or_empty (get p.logical.texts q))
+      inode.attributes inode.names inode.kind
 
   abbrev sized_node : Node
   sized_node = File (file_resized m.size m.attributes file_was)

@@ -1,9 +1,10 @@
 -- Inodes and names after a node without entries loses its name: they are lawful again.
-use Rattle.std.proofs.Common.{◌≡◌, ◌≢◌, ℕ, zero, suc, ◌+◌, ◌-◌, ◌<◌, ◌==◌, ◌&&◌, not, Bool, true, false, List, [], ◌∷◌, Option, Some, None}
+use Rattle.std.proofs.Common.{◌≡◌, ◌≢◌, ℕ, zero, suc, ◌+◌, ◌-◌, ◌<◌, ◌==◌, not, Bool, true, false, List, [], ◌∷◌, Option, Some, None}
 use Rattle.std.proofs.Common.{refl, sym, ap, ◌∙◌, subst, arith, eq-eqb, ne_eqb}
 use Rattle.std.specs.Prelude.{if◌then◌else◌, is_some, IfSome}
 use Rattle.std.proofs.lemmas.Bool.{eqb-true}
 use Rattle.std.specs.List.{AllByRecursion}
+use Rattle.std.specs.Option.{option_map}
 use Rattle.std.specs.Cmp.{nat_cmp_total}
 use Rattle.std.specs.FinMap.{get, remove, entries, nat_cmp-IsAntisymmetric}
 use Rattle.nfs_model.specs.Types.{Listed}
@@ -11,11 +12,12 @@ use Rattle.nfs_model.specs.Names.{find_name, without_name}
 use Rattle.nfs_model.specs.Parts.{one_if}
 use Rattle.depot_rule.specs.Sums.{total}
 use Rattle.nfs_model.specs.volume.Directories.{DirectoryValue, removed, found}
-use Rattle.nfs_model.specs.volume.Inodes.{InodeKind, RegularFile, DirectoryKind, Inode, InodesValue, inode_of, inode_dropped}
+use Rattle.nfs_model.specs.volume.Inodes.{InodeKind, Inode, InodesValue, filled_blocks, inode_of, inode_dropped}
 use Rattle.nfs_model.specs.volume.lemmas.Inodes.{inode-dropped-there, inode-dropped-other, inode-set-there, inode-set-other}
 use Rattle.nfs_model.specs.volume.lemmas.Numbered.{get-insert_at, get-remove_at, itself}
-use Rattle.filer_state.specs.state.Names.{root, DirectoryMap, size_in, size_of, parent_in, parent_directory, subdirectories_in, subdirectories_of, is_directory}
-use Rattle.filer_state.specs.state.Names.{parent_or, times_in_list, times_named, is_named, directories_listed, directory_above, DirectoryFits, AreNamed}
+use Rattle.filer_state.specs.state.Names.{root, DirectoryMap, size_in, size_of, parent_in, parent_directory, subdirectories_in, subdirectories_of, is_directory, names_of}
+use Rattle.filer_state.specs.state.Names.{parent_or, times_in_list, times_named, directories_listed, directory_above, DirectoryFits, AreNamed}
+use Rattle.filer_state.specs.laws.lemmas.InodeKinds as kinds
 use Rattle.filer_state.specs.laws.lemmas.Mapped.{entry-at-least, total-entries}
 use Rattle.filer_state.specs.nodes.Making.{directories_in}
 use Rattle.filer_state.specs.nodes.Dropping.{Dropping, without_subdirectories, directory_left, inodes_left, directories_left, entries_left}
@@ -23,21 +25,21 @@ use Rattle.filer_state.specs.nodes.Laws.{LosesName}
 use Rattle.filer_state.specs.nodes.lemmas.Others as others
 use Rattle.filer_state.specs.nodes.lemmas.Others.{IsChildOf}
 use Rattle.filer_state.specs.nodes.lemmas.Summed.{total-split, total-set}
-use Rattle.filer_state.specs.nodes.lemmas.Listing.{all-without, removed-is, count-without}
+use Rattle.nfs_model.specs.volume.lemmas.Listing.{all-without, removed-is, count-without}
 
 -- ---- kinds
 
 pub parent-kept : (fewer : ℕ) (k : InodeKind) → parent_in (without_subdirectories fewer k) ≡ parent_in k
-parent-kept fewer (RegularFile size filled verifier) = refl
-parent-kept fewer (DirectoryKind parent subdirectories) = refl
+parent-kept fewer k = kinds.parent-kept (λ n. n - fewer) k
 
 pub size-kept : (fewer : ℕ) (k : InodeKind) → size_in (without_subdirectories fewer k) ≡ size_in k
-size-kept fewer (RegularFile size filled verifier) = refl
-size-kept fewer (DirectoryKind parent subdirectories) = refl
+size-kept fewer k = kinds.size-changed (λ parent. parent) (λ n. n - fewer) k
+
+pub blocks-kept : (fewer : ℕ) (k : InodeKind) → filled_blocks (without_subdirectories fewer k) ≡ filled_blocks k
+blocks-kept fewer k = kinds.blocks-changed (λ parent. parent) (λ n. n - fewer) k
 
 pub counted-less : (fewer n : ℕ) (k : InodeKind) → subdirectories_in k ≡ Some n → subdirectories_in (without_subdirectories fewer k) ≡ Some (n - fewer)
-counted-less fewer n (RegularFile size filled verifier) e = absurd cc
-counted-less fewer n (DirectoryKind parent subdirectories) e = let same : subdirectories ≡ n = cc in ap (λ k. Some (k - fewer)) same
+counted-less fewer n k e = kinds.count-changed (λ parent. parent) (λ n. n - fewer) k ∙ ap (option_map (λ n. n - fewer)) e
 
 module _ (old : InodesValue) (directories : DirectoryMap) (m : Dropping) (may : LosesName m old directories) where
   abbrev new : InodesValue
@@ -96,15 +98,15 @@ module _ (old : InodesValue) (directories : DirectoryMap) (m : Dropping) (may : 
           ∙ sym (ap (λ (k : ℕ). size_of (inode_of old k)) is ∙ ap size_of may.there)
       by false e = ap size_of (at-other q e left)
 
-  some-same : (q : ℕ) → (q == m.fileid) ≡ false → is_some (inode_of new q) ≡ is_some (inode_of old q)
-  some-same q left = by (q == m.directory) refl
+  names-same : (q : ℕ) → (q == m.fileid) ≡ false → names_of (inode_of new q) ≡ names_of (inode_of old q)
+  names-same q left = by (q == m.directory) refl
     where
-      by : (b : Bool) → (q == m.directory) ≡ b → is_some (inode_of new q) ≡ is_some (inode_of old q)
+      by : (b : Bool) → (q == m.directory) ≡ b → names_of (inode_of new q) ≡ names_of (inode_of old q)
       by true e =
           let is : q ≡ m.directory = eqb-true q m.directory e in
-          ap (λ (k : ℕ). is_some (inode_of new k)) is ∙ ap (λ o. is_some o) at-directory
-          ∙ sym (ap (λ (k : ℕ). is_some (inode_of old k)) is ∙ ap (λ o. is_some o) may.there)
-      by false e = ap (λ o. is_some o) (at-other q e left)
+          ap (λ (k : ℕ). names_of (inode_of new k)) is ∙ ap names_of at-directory
+          ∙ sym (ap (λ (k : ℕ). names_of (inode_of old k)) is ∙ ap names_of may.there)
+      by false e = ap names_of (at-other q e left)
 
   -- ---- lists in which the fileid doesn't stand
 
@@ -135,8 +137,8 @@ module _ (old : InodesValue) (directories : DirectoryMap) (m : Dropping) (may : 
         let same : one_if (may.entry.fileid == q) ≡ one_if (m.fileid == q) = ap (λ (x : ℕ). one_if (x == q)) may.is in
         omega (arith, all, same)
 
-    once-before : times_named m.fileid directories ≡ one_if (not (m.fileid == root))
-    once-before = named.once m.fileid ∙ ap (λ o. one_if (is_some o && not (m.fileid == root))) may.node
+    names-before : times_named m.fileid directories ≡ m.dropped.names
+    names-before = named.counted m.fileid ∙ ap names_of may.node
 
     some-listed : 0 < times_in_list m.fileid m.entries.list
     some-listed = let all = times-left m.fileid in let one : one_if (m.fileid == m.fileid) ≡ 1 = ap one_if (itself m.fileid) in omega (arith, all, one)
@@ -149,12 +151,18 @@ module _ (old : InodesValue) (directories : DirectoryMap) (m : Dropping) (may : 
         by true e =
             let some = some-listed in
             let most = entry-at-least nat_cmp-IsAntisymmetric (times_of m.fileid) directories m.directory m.entries may.entered in
-            let once : times_named m.fileid directories ≡ 0 = once-before ∙ ap (λ (t : Bool). one_if (not t)) e in
+            let once : times_named m.fileid directories ≡ 0 = ap (λ (k : ℕ). times_named k directories) (eqb-true m.fileid root e)
+            ∙ named.counted root ∙ named.once root (ap (λ o. is_some o) named.root_there) in
             absurd (omega (arith, some, most, once))
         by false e = refl
 
     once-is : times_named m.fileid directories ≡ 1
-    once-is = once-before ∙ ap (λ (t : Bool). one_if (not t)) no-root
+    once-is =
+        let some = some-listed in
+        let most = entry-at-least nat_cmp-IsAntisymmetric (times_of m.fileid) directories m.directory m.entries may.entered in
+        let before = names-before in
+        let last = may.last in
+        omega (arith, some, most, before, last)
 
     none-left : times_in_list m.fileid list_left ≡ 0
     none-left =
@@ -187,15 +195,21 @@ module _ (old : InodesValue) (directories : DirectoryMap) (m : Dropping) (may : 
     none-is None e = refl
     none-is (Some d) e = absurd cc
 
-    dropped-alone : (k : InodeKind) → is_some (get directories m.fileid) ≡ is_some (parent_in k) → get (directories_left k m.fileid directories) m.fileid ≡ None
-    dropped-alone (RegularFile size filled verifier) e = none-is (get directories m.fileid) e
-    dropped-alone (DirectoryKind parent subdirectories) e =
+    -- the directories without the node's entries, if it is one
+    abbrev directories_if : Bool → DirectoryMap
+    directories_if b = if b then remove directories m.fileid else directories
+
+    abbrev dropped_one : Bool
+    dropped_one = is_some (parent_in m.dropped.kind)
+
+    dropped-alone : (b : Bool) → is_some (get directories m.fileid) ≡ b → get (directories_if b) m.fileid ≡ None
+    dropped-alone false e = none-is (get directories m.fileid) e
+    dropped-alone true e =
         get-remove_at directories m.fileid m.fileid ∙ ap (λ (b : Bool). if b then None else get directories m.fileid) (itself m.fileid)
 
-    others-alone : (k : InodeKind) (q : ℕ) → (q == m.fileid) ≡ false → get (directories_left k m.fileid directories) q ≡ get directories q
-    others-alone (RegularFile size filled verifier) q left = refl
-    others-alone (DirectoryKind parent subdirectories) q left =
-        get-remove_at directories m.fileid q ∙ ap (λ (b : Bool). if b then None else get directories q) left
+    others-alone : (b : Bool) (q : ℕ) → (q == m.fileid) ≡ false → get (directories_if b) q ≡ get directories q
+    others-alone false q left = refl
+    others-alone true q left = get-remove_at directories m.fileid q ∙ ap (λ (b : Bool). if b then None else get directories q) left
 
     found-at : (q : ℕ) → get directories_after q ≡ (if q == m.directory then Some (removed m.name m.entries) else get first_entries q)
     found-at q = get-insert_at first_entries m.directory (removed m.name m.entries) q
@@ -207,11 +221,11 @@ module _ (old : InodesValue) (directories : DirectoryMap) (m : Dropping) (may : 
     pub dropped-entries : get directories_after m.fileid ≡ None
     dropped-entries =
         found-at m.fileid ∙ ap (λ (b : Bool). if b then Some (removed m.name m.entries) else get first_entries m.fileid) apart-turned
-        ∙ dropped-alone m.dropped.kind dropped-directory
+        ∙ dropped-alone dropped_one dropped-directory
 
     pub other-entries : (q : ℕ) → (q == m.directory) ≡ false → (q == m.fileid) ≡ false → get directories_after q ≡ get directories q
     other-entries q ne left =
-        found-at q ∙ ap (λ (b : Bool). if b then Some (removed m.name m.entries) else get first_entries q) ne ∙ others-alone m.dropped.kind q left
+        found-at q ∙ ap (λ (b : Bool). if b then Some (removed m.name m.entries) else get first_entries q) ne ∙ others-alone dropped_one q left
 
     -- ---- what holds of each
 
@@ -223,13 +237,9 @@ module _ (old : InodesValue) (directories : DirectoryMap) (m : Dropping) (may : 
         (ap (λ o. is_some o) dropped-entries ∙ sym (ap is_directory at-dropped))
         (λ q ne left. ap (λ o. is_some o) (other-entries q ne left) ∙ named.as_directories q ∙ sym (ap is_directory (at-other q ne left)))
 
-    kind-directory : (k : InodeKind) → one_if (is_some (parent_in k)) ≡ directories_in k
-    kind-directory (RegularFile size filled verifier) = refl
-    kind-directory (DirectoryKind parent subdirectories) = refl
-
     entry-counts : one_if (is_directory (inode_of old may.entry.fileid)) ≡ directories_in m.dropped.kind
     entry-counts =
-        ap (λ (x : ℕ). one_if (is_directory (inode_of old x))) may.is ∙ ap (λ o. one_if (is_directory o)) may.node ∙ kind-directory m.dropped.kind
+        ap (λ (x : ℕ). one_if (is_directory (inode_of old x))) may.is ∙ ap (λ o. one_if (is_directory o)) may.node
 
     fits-directory : DirectoryFits new.inodes m.directory (removed m.name m.entries)
     fits-directory =
@@ -263,10 +273,9 @@ module _ (old : InodesValue) (directories : DirectoryMap) (m : Dropping) (may : 
 
     -- ---- how often each is named
 
-    first-times : (q : ℕ) (k : InodeKind) → is_some (get directories m.fileid) ≡ is_some (parent_in k)
-        → total (times_of q) (entries (directories_left k m.fileid directories)) ≡ times_named q directories
-    first-times q (RegularFile size filled verifier) e = refl
-    first-times q (DirectoryKind parent subdirectories) e = by (get directories m.fileid) refl e
+    first-times : (q : ℕ) (b : Bool) → is_some (get directories m.fileid) ≡ b → total (times_of q) (entries (directories_if b)) ≡ times_named q directories
+    first-times q false e = refl
+    first-times q true e = by (get directories m.fileid) refl e
       where
         by : (o : Option DirectoryValue) → get directories m.fileid ≡ o → is_some (get directories m.fileid) ≡ true
             → total (times_of q) (entries (remove directories m.fileid)) ≡ times_named q directories
@@ -277,33 +286,42 @@ module _ (old : InodesValue) (directories : DirectoryMap) (m : Dropping) (may : 
             omega (arith, split, none)
 
     first-there : get first_entries m.directory ≡ Some m.entries
-    first-there = others-alone m.dropped.kind m.directory apart ∙ may.entered
+    first-there = others-alone dropped_one m.directory apart ∙ may.entered
 
     times-after : (q : ℕ) → times_named q directories_after + one_if (m.fileid == q) ≡ times_named q directories
     times-after q =
         let set = total-set (times_of q) first_entries m.directory m.entries (removed m.name m.entries) first-there in
-        let first = first-times q m.dropped.kind dropped-directory in
+        let first = first-times q dropped_one dropped-directory in
         let left = times-left q in
         omega (arith, set, first, left)
 
-    once-after : (q : ℕ) → times_named q directories_after ≡ one_if (is_named new.inodes q)
-    once-after q = by (q == m.fileid) refl
+    counted-after : (q : ℕ) → times_named q directories_after ≡ names_of (inode_of new q)
+    counted-after q = by (q == m.fileid) refl
       where
-        by : (b : Bool) → (q == m.fileid) ≡ b → times_named q directories_after ≡ one_if (is_named new.inodes q)
+        by : (b : Bool) → (q == m.fileid) ≡ b → times_named q directories_after ≡ names_of (inode_of new q)
         by true e =
             let is : q ≡ m.fileid = eqb-true q m.fileid e in
             let here : times_named m.fileid directories_after ≡ 0 =
             (let after = times-after m.fileid in let once = once-is in let one : one_if (m.fileid == m.fileid) ≡ 1 = ap one_if (itself m.fileid) in
             omega (arith, after, once, one)) in
-            let now : one_if (is_named new.inodes m.fileid) ≡ 0 = ap (λ o. one_if (is_some o && not (m.fileid == root))) at-dropped in
-            subst (λ (k : ℕ). times_named k directories_after ≡ one_if (is_named new.inodes k)) (sym is) (here ∙ sym now)
+            ap (λ (k : ℕ). times_named k directories_after) is ∙ here ∙ sym (ap (λ (k : ℕ). names_of (inode_of new k)) is ∙ ap names_of at-dropped)
         by false e =
             let other : one_if (m.fileid == q) ≡ 0 =
             ap one_if (ne_eqb m.fileid q (λ (h : m.fileid ≡ q). let t : (q == m.fileid) ≡ true = eq-eqb q m.fileid (sym h) in cc)) in
             let after = times-after q in
-            let was = named.once q in
-            let same : one_if (is_named new.inodes q) ≡ one_if (is_named old.inodes q) = ap (λ (b : Bool). one_if (b && not (q == root))) (some-same q e) in
+            let was = named.counted q in
+            let same = names-same q e in
             omega (arith, other, after, was, same)
+
+    once-after : (q : ℕ) → is_directory (inode_of new q) ≡ true → names_of (inode_of new q) ≡ one_if (not (q == root))
+    once-after q h = by (q == m.fileid) refl
+      where
+        by : (b : Bool) → (q == m.fileid) ≡ b → names_of (inode_of new q) ≡ one_if (not (q == root))
+        by true e =
+            let none : is_directory (inode_of new q) ≡ false =
+            ap (λ (k : ℕ). is_directory (inode_of new k)) (eqb-true q m.fileid e) ∙ ap is_directory at-dropped in
+            absurd cc
+        by false e = names-same q e ∙ named.once q (sym (ap (λ o. is_some o) (parent-same q e)) ∙ h)
 
     -- ---- the way to the root
 
@@ -341,14 +359,10 @@ module _ (old : InodesValue) (directories : DirectoryMap) (m : Dropping) (may : 
       is-root : (q == root) ≡ true
       is-root = by (q == root) refl
         where
-          some : (o : Option Inode) → parent_directory o ≡ Some m.fileid → is_some o ≡ true
-          some None e = absurd cc
-          some (Some i) e = refl
-
           by : (b : Bool) → (q == root) ≡ b → b ≡ true
           by true is = refl
           by false is =
-              let once : times_named q directories ≡ 1 = named.once q ∙ ap (λ (t : Bool). one_if (t && not (q == root))) (some (inode_of old q) parent)
+              let once : times_named q directories ≡ 1 = named.counted q ∙ named.once q (ap (λ o. is_some o) parent)
               ∙ ap (λ (t : Bool). one_if (not t)) is in
               let never = never-named in
               absurd (omega (arith, once, never))
@@ -389,6 +403,7 @@ module _ (old : InodesValue) (directories : DirectoryMap) (m : Dropping) (may : 
           subst (DirectoryFits new.inodes m.directory) same fits-directory)
           (λ d e. let none = dropped-entries in absurd cc)
           (λ q ne left d e. fits-other q d ne left (sym (other-entries q ne left) ∙ e));
+      counted = counted-after;
       once = once-after;
       rooted = by-fileid (λ q. is_directory (inode_of new q) ≡ true → (steps : ℕ) × (directory_above new.inodes steps q ≡ root))
           (λ h. rooted-still m.directory apart (sym (named.as_directories m.directory) ∙ ap (λ o. is_some o) may.entered))

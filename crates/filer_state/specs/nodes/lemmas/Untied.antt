@@ -1,5 +1,5 @@
 -- Names after an entry is taken, while its node has no name.
-use Rattle.std.proofs.Common.{◌≡◌, ℕ, zero, suc, ◌+◌, ◌-◌, ◌==◌, ◌&&◌, not, Bool, true, false, List, [], ◌∷◌, Some}
+use Rattle.std.proofs.Common.{◌≡◌, ℕ, zero, suc, ◌+◌, ◌-◌, ◌==◌, not, Bool, true, false, List, [], ◌∷◌, Some}
 use Rattle.std.proofs.Common.{refl, sym, ap, ◌∙◌, subst, arith, eq-eqb, ne_eqb}
 use Rattle.std.specs.Prelude.{if◌then◌else◌, is_some, IfSome}
 use Rattle.std.proofs.lemmas.Bool.{eqb-true}
@@ -9,11 +9,11 @@ use Rattle.nfs_model.specs.Types.{Listed}
 use Rattle.nfs_model.specs.Names.{without_name}
 use Rattle.nfs_model.specs.Parts.{one_if}
 use Rattle.nfs_model.specs.volume.Directories.{DirectoryValue, removed}
-use Rattle.nfs_model.specs.volume.Inodes.{InodeKind, RegularFile, DirectoryKind, Inode, InodesValue, inode_of}
+use Rattle.nfs_model.specs.volume.Inodes.{Inode, InodesValue, inode_of}
 use Rattle.nfs_model.specs.volume.lemmas.Inodes.{inode-set-there, inode-set-other}
 use Rattle.nfs_model.specs.volume.lemmas.Numbered.{get-insert_at, itself}
-use Rattle.filer_state.specs.state.Names.{root, InodeMap, DirectoryMap, parent_in, parent_directory, subdirectories_in, subdirectories_of}
-use Rattle.filer_state.specs.state.Names.{is_directory, parent_or, times_in_list, times_named, is_named, directories_listed, directory_above, DirectoryFits}
+use Rattle.filer_state.specs.state.Names.{root, InodeMap, DirectoryMap, parent_directory, subdirectories_in, subdirectories_of, names_of}
+use Rattle.filer_state.specs.state.Names.{is_directory, parent_or, times_in_list, times_named, directories_listed, directory_above, DirectoryFits}
 use Rattle.filer_state.specs.state.Names.{ReachesRoot, AreNamed}
 use Rattle.filer_state.specs.nodes.Making.{directories_in}
 use Rattle.filer_state.specs.nodes.Dropping.{without_subdirectories}
@@ -22,15 +22,18 @@ use Rattle.filer_state.specs.nodes.Laws.{StandsUnder}
 use Rattle.filer_state.specs.nodes.lemmas.Others as others
 use Rattle.filer_state.specs.nodes.lemmas.Others.{IsChildOf}
 use Rattle.filer_state.specs.nodes.lemmas.Summed.{total-set}
-use Rattle.filer_state.specs.nodes.lemmas.Listing.{all-without, removed-is, count-without}
+use Rattle.nfs_model.specs.volume.lemmas.Listing.{all-without, removed-is, count-without}
 use Rattle.filer_state.specs.nodes.lemmas.Unnamed.{parent-kept, counted-less}
 
--- names are lawful, but that one node has none
-pub record AreNamedBut (fileid : ℕ) (inodes : InodeMap) (directories : DirectoryMap) : Type 0 where
+-- names are lawful, but that one node has one less than this many
+pub record AreNamedBut (fileid names : ℕ) (inodes : InodeMap) (directories : DirectoryMap) : Type 0 where
   pub root_there : parent_directory (get inodes root) ≡ Some root
   pub as_directories : (q : ℕ) → is_some (get directories q) ≡ is_directory (get inodes q)
   pub fits : (q : ℕ) (d : DirectoryValue) → get directories q ≡ Some d → DirectoryFits inodes q d
-  pub once : (q : ℕ) → times_named q directories ≡ one_if (is_named inodes q && not (q == fileid))
+  pub counted : (q : ℕ) → (q == fileid) ≡ false → times_named q directories ≡ names_of (get inodes q)
+  pub one_less : times_named fileid directories + 1 ≡ names
+  pub once : (q : ℕ) → is_directory (get inodes q) ≡ true → names_of (get inodes q) ≡ one_if (not (q == root))
+  pub last : is_directory (get inodes fileid) ≡ true → names ≡ 1
   pub rooted : (q : ℕ) → is_directory (get inodes q) ≡ true → ReachesRoot inodes q
 
 module _ (old : InodesValue) (directories : DirectoryMap) (m : Naming) (stands : StandsUnder m old directories) where
@@ -57,10 +60,10 @@ module _ (old : InodesValue) (directories : DirectoryMap) (m : Naming) (stands :
       (ap parent_directory untied-directory ∙ parent-kept (directories_in m.node.kind) m.inode.kind ∙ sym (ap parent_directory stands.there))
       (λ q ne. ap parent_directory (untied-other q ne))
 
-  some-same : (q : ℕ) → is_some (inode_of new q) ≡ is_some (inode_of old q)
-  some-same = by-fileid (λ q. is_some (inode_of new q) ≡ is_some (inode_of old q))
-      (ap (λ o. is_some o) untied-directory ∙ sym (ap (λ o. is_some o) stands.there))
-      (λ q ne. ap (λ o. is_some o) (untied-other q ne))
+  pub names-same : (q : ℕ) → names_of (inode_of new q) ≡ names_of (inode_of old q)
+  names-same = by-fileid (λ q. names_of (inode_of new q) ≡ names_of (inode_of old q))
+      (ap names_of untied-directory ∙ sym (ap names_of stands.there))
+      (λ q ne. ap names_of (untied-other q ne))
 
   directories-same : (list : List Listed) → directories_listed new.inodes list ≡ directories_listed old.inodes list
   directories-same [] = refl
@@ -71,11 +74,7 @@ module _ (old : InodesValue) (directories : DirectoryMap) (m : Naming) (stands :
       omega (arith, here, others)
 
   children-same : (fileid : ℕ) (list : List Listed) → AllByRecursion (IsChildOf old.inodes fileid) list → AllByRecursion (IsChildOf new.inodes fileid) list
-  children-same fileid [] all = tt
-  children-same fileid (e ∷ list) all = (
-    subst (λ o. IfSome o (λ parent. parent ≡ fileid)) (sym (parent-same e.fileid)) all.0,
-    children-same fileid list all.1,
-  )
+  children-same = others.children-alike new.inodes old.inodes parent-same
 
   above-same : (n q : ℕ) → directory_above new.inodes n q ≡ directory_above old.inodes n q
   above-same zero q = refl
@@ -111,51 +110,42 @@ module _ (old : InodesValue) (directories : DirectoryMap) (m : Naming) (stands :
         omega (arith, set, left)
 
     -- a node that has a name isn't the root
-    no-root : (m.fileid == root) ≡ false
+    pub no-root : (m.fileid == root) ≡ false
     no-root = by (m.fileid == root) refl
       where
         by : (b : Bool) → (m.fileid == root) ≡ b → b ≡ false
         by true e =
             let left = times-after m.fileid in
             let one : one_if (m.fileid == m.fileid) ≡ 1 = ap one_if (itself m.fileid) in
-            let once : times_named m.fileid directories ≡ 0 = named.once m.fileid
-            ∙ ap (λ o. one_if (is_some o && not (m.fileid == root))) stands.node ∙ ap (λ (t : Bool). one_if (not t)) e in
-            absurd (omega (arith, left, one, once))
+            let is : m.fileid ≡ root = eqb-true m.fileid root e in
+            let none : times_named m.fileid directories ≡ 0 = ap (λ (k : ℕ). times_named k directories) is ∙ named.counted root
+            ∙ named.once root (ap (λ o. is_some o) named.root_there) in
+            absurd (omega (arith, left, one, none))
         by false e = refl
 
-    once-after : (q : ℕ) → times_named q directories_after ≡ one_if (is_named new.inodes q && not (q == m.fileid))
-    once-after q = by (q == m.fileid) refl
-      where
-        and-false : (b : Bool) → (b && false) ≡ false
-        and-false true = refl
-        and-false false = refl
+    less-after : times_named m.fileid directories_after + 1 ≡ m.node.names
+    less-after =
+        let left = times-after m.fileid in
+        let one : one_if (m.fileid == m.fileid) ≡ 1 = ap one_if (itself m.fileid) in
+        let counted : times_named m.fileid directories ≡ m.node.names = named.counted m.fileid ∙ ap names_of stands.node in
+        omega (arith, left, one, counted)
 
-        and-true : (b : Bool) → (b && true) ≡ b
-        and-true true = refl
-        and-true false = refl
+    counted-after : (q : ℕ) → (q == m.fileid) ≡ false → times_named q directories_after ≡ names_of (inode_of new q)
+    counted-after q e =
+        let other : one_if (m.fileid == q) ≡ 0 =
+        ap one_if (ne_eqb m.fileid q (λ (h : m.fileid ≡ q). let t : (q == m.fileid) ≡ true = eq-eqb q m.fileid (sym h) in cc)) in
+        let left = times-after q in
+        let was = named.counted q in
+        let same = names-same q in
+        omega (arith, other, left, was, same)
 
-        by : (b : Bool) → (q == m.fileid) ≡ b → times_named q directories_after ≡ one_if (is_named new.inodes q && not b)
-        by true e =
-            let is : q ≡ m.fileid = eqb-true q m.fileid e in
-            let here : times_named m.fileid directories_after ≡ 0 =
-            (let left = times-after m.fileid in
-            let one : one_if (m.fileid == m.fileid) ≡ 1 = ap one_if (itself m.fileid) in
-            let once : times_named m.fileid directories ≡ 1 = named.once m.fileid
-            ∙ ap (λ o. one_if (is_some o && not (m.fileid == root))) stands.node ∙ ap (λ (t : Bool). one_if (not t)) no-root in
-            omega (arith, left, one, once)) in
-            ap (λ (k : ℕ). times_named k directories_after) is ∙ here ∙ sym (ap one_if (and-false (is_named new.inodes q)))
-        by false e =
-            let other : one_if (m.fileid == q) ≡ 0 =
-            ap one_if (ne_eqb m.fileid q (λ (h : m.fileid ≡ q). let t : (q == m.fileid) ≡ true = eq-eqb q m.fileid (sym h) in cc)) in
-            let left = times-after q in
-            let was = named.once q in
-            let same : one_if (is_named new.inodes q && true) ≡ one_if (is_named old.inodes q) = ap one_if (and-true (is_named new.inodes q))
-            ∙ ap (λ (b : Bool). one_if (b && not (q == root))) (some-same q) in
-            omega (arith, other, left, was, same)
+    once-after : (q : ℕ) → is_directory (inode_of new q) ≡ true → names_of (inode_of new q) ≡ one_if (not (q == root))
+    once-after q e = names-same q ∙ named.once q (sym (ap (λ o. is_some o) (parent-same q)) ∙ e)
 
-    kind-directory : (k : InodeKind) → one_if (is_some (parent_in k)) ≡ directories_in k
-    kind-directory (RegularFile size filled verifier) = refl
-    kind-directory (DirectoryKind parent subdirectories) = refl
+    last-after : is_directory (inode_of new m.fileid) ≡ true → m.node.names ≡ 1
+    last-after e =
+        sym (ap names_of stands.node) ∙ named.once m.fileid (sym (ap (λ o. is_some o) (parent-same m.fileid)) ∙ e)
+        ∙ ap (λ (t : Bool). one_if (not t)) no-root
 
     fits-directory : DirectoryFits new.inodes m.directory (removed m.name m.entries)
     fits-directory =
@@ -171,7 +161,7 @@ module _ (old : InodesValue) (directories : DirectoryMap) (m : Naming) (stands :
               let all = count-without (λ (e : Listed). is_directory (get old.inodes e.fileid)) m.name m.entries.list stands.entry
               was.list.names stands.found_there in
               let one : one_if (is_directory (inode_of old stands.entry.fileid)) ≡ directories_in m.node.kind =
-              ap (λ (x : ℕ). one_if (is_directory (inode_of old x))) stands.is ∙ ap (λ o. one_if (is_directory o)) stands.node ∙ kind-directory m.node.kind in
+              ap (λ (x : ℕ). one_if (is_directory (inode_of old x))) stands.is ∙ ap (λ o. one_if (is_directory o)) stands.node in
               let same = directories-same (without_name m.name m.entries.list) in
               let sum : directories_listed old.inodes m.entries.list - directories_in m.node.kind
               ≡ directories_listed new.inodes (without_name m.name m.entries.list) = omega (arith, all, one, same) in
@@ -179,7 +169,7 @@ module _ (old : InodesValue) (directories : DirectoryMap) (m : Naming) (stands :
         }
 
     -- names are lawful but for the node
-    pub named-untied : AreNamedBut m.fileid new.inodes directories_after
+    pub named-untied : AreNamedBut m.fileid m.node.names new.inodes directories_after
     named-untied = record {
       root_there = parent-same root ∙ named.root_there;
       as_directories = by-fileid (λ q. is_some (get directories_after q) ≡ is_directory (inode_of new q))
@@ -196,7 +186,10 @@ module _ (old : InodesValue) (directories : DirectoryMap) (m : Naming) (stands :
             children = children-same q d.list was.children;
             links = ap subdirectories_of (untied-other q ne) ∙ was.links ∙ ap Some (sym (directories-same d.list));
           });
+      counted = counted-after;
+      one_less = less-after;
       once = once-after;
+      last = last-after;
       rooted = λ q e.
           let reaches = named.rooted q (sym (ap (λ o. is_some o) (parent-same q)) ∙ e) in
           (reaches.0, above-same reaches.0 q ∙ reaches.1);

@@ -34,7 +34,7 @@ module _ (p : VolumeContents) (well : WellFormed p) where
   space-is : space_held (volume_lens.of p) ≡ space (volume_of p)
   space-is =
       let used = sym (used-is p well) in
-      let inodes = sym (len-map_values (node_of p.stripes p.logical.directories) nat_cmp_total nat_cmp-IsAntisymmetric p.logical.inodes.inodes) in
+      let inodes = sym (len-map_values (node_of p.stripes p.logical.directories p.logical.texts) nat_cmp_total nat_cmp-IsAntisymmetric p.logical.inodes.inodes) in
       λ j. record (space_held (volume_lens.of p)) {
         free_bytes = block_size * (p.logical.dead.range_blocks * ranges_used p.ranges - used j);
         free_inodes = p.logical.most_inodes - inodes j;
@@ -42,7 +42,7 @@ module _ (p : VolumeContents) (well : WellFormed p) where
 
   by_inode : (fileid : ℕ) (o : Option Inode) → get p.logical.inodes.inodes fileid ≡ o
       → filesystem_status_told p.number fileid (volume_lens.of p) o
-      ≡ answer_of 1 (on_node (option_map (node_of p.stripes p.logical.directories fileid) o)
+      ≡ answer_of 1 (on_node (option_map (node_of p.stripes p.logical.directories p.logical.texts fileid) o)
       (λ node. Tells (FsstatDone (shown (volume_of p) fileid node) (space (volume_of p)))))
   by_inode fileid None e = refl
   by_inode fileid (Some inode) e =

@@ -25,7 +25,7 @@ same-is x y e = same_text x y (sym e ∙ same-pointwise x y)
 
 -- ---- after `removed`
 
-find-gone : (es : List Listed) (name : List ℕ) → find_name name (without_name name es) ≡ None
+pub find-gone : (es : List Listed) (name : List ℕ) → find_name name (without_name name es) ≡ None
 find-gone [] name = refl
 find-gone (x ∷ es) name = by (same_name x.name name) refl (find-gone es name)
   where
@@ -34,7 +34,7 @@ find-gone (x ∷ es) name = by (same_name x.name name) refl (find-gone es name)
     by true p r = r
     by false p r = rw (← p) r
 
-find-left : (es : List Listed) (name other : List ℕ) → same_name name other ≡ false
+pub find-left : (es : List Listed) (name other : List ℕ) → same_name name other ≡ false
     → find_name other (without_name name es) ≡ find_name other es
 find-left [] name other o = refl
 find-left (x ∷ es) name other o = by (same_name x.name name) refl (find-left es name other o)

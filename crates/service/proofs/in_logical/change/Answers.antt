@@ -44,6 +44,22 @@ returns-in-MakeDirectory-clause-runs c =
     (allowed_named L n (caller_of c.args.run.caller.now) (moment_of c.args.run.moment) (call_of call)) (logical_before c.args.held.now)
     (outcome_of c.make_directory_here.result) (logical_after c.args.held.now c.make_directory_here.new.held)) (sym c.in-MakeDirectory.is) (c.make_directory_here.ensures.runs L)
 
+pub returns-in-MakeSymbolicLink-clause-runs : goal.returns-in-MakeSymbolicLink-clause-runs
+returns-in-MakeSymbolicLink-clause-runs c =
+    let L = layout_of c.args.layout.now in
+    let n = named_of c.args.named in
+    subst (λ (call : Call). RunsOn n.volume logical_lens
+    (allowed_named L n (caller_of c.args.run.caller.now) (moment_of c.args.run.moment) (call_of call)) (logical_before c.args.held.now)
+    (outcome_of c.make_symbolic_link_here.result) (logical_after c.args.held.now c.make_symbolic_link_here.new.held)) (sym c.in-MakeSymbolicLink.is) (c.make_symbolic_link_here.ensures.runs L)
+
+pub returns-in-MakeDevice-clause-runs : goal.returns-in-MakeDevice-clause-runs
+returns-in-MakeDevice-clause-runs c =
+    let L = layout_of c.args.layout.now in
+    let n = named_of c.args.named in
+    subst (λ (call : Call). RunsOn n.volume logical_lens
+    (allowed_named L n (caller_of c.args.run.caller.now) (moment_of c.args.run.moment) (call_of call)) (logical_before c.args.held.now)
+    (outcome_of c.make_device_here.result) (logical_after c.args.held.now c.make_device_here.new.held)) (sym c.in-MakeDevice.is) (c.make_device_here.ensures.runs L)
+
 pub returns-in-Remove-clause-runs : goal.returns-in-Remove-clause-runs
 returns-in-Remove-clause-runs c =
     let L = layout_of c.args.layout.now in
@@ -72,3 +88,11 @@ returns-in-Rename-clause-runs c =
     subst (λ (call : Call). RunsOn n.volume logical_lens
     (allowed_named L n (caller_of c.args.run.caller.now) (moment_of c.args.run.moment) (call_of call)) (logical_before c.args.held.now)
     (outcome_of c.rename_here.result) (logical_after c.args.held.now c.rename_here.new.held)) (sym c.in-Rename.is) (c.rename_here.ensures.runs)
+
+pub returns-in-MakeLink-clause-runs : goal.returns-in-MakeLink-clause-runs
+returns-in-MakeLink-clause-runs c =
+    let L = layout_of c.args.layout.now in
+    let n = named_of c.args.named in
+    subst (λ (call : Call). RunsOn n.volume logical_lens
+    (allowed_named L n (caller_of c.args.run.caller.now) (moment_of c.args.run.moment) (call_of call)) (logical_before c.args.held.now)
+    (outcome_of c.make_link_here.result) (logical_after c.args.held.now c.make_link_here.new.held)) (sym c.in-MakeLink.is) (c.make_link_here.ensures.runs)

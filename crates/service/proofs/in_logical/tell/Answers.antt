@@ -34,6 +34,14 @@ returns-in-CheckAccess c =
     (call_named layout n (caller_of c.args.run.caller.now) (moment_of c.args.run.moment) (call_of call)) old
     (outcome_of c.check_access_here.result) old) (sym c.in-CheckAccess.is) (c.check_access_here.ensures layout)
 
+pub returns-in-ReadLink : goal.returns-in-ReadLink
+returns-in-ReadLink c =
+    let n = named_of c.args.named in
+    let old = logical_before c.args.held.now in
+    λ layout. subst (λ (call : Call). RunsOn n.volume logical_lens
+    (call_named layout n (caller_of c.args.run.caller.now) (moment_of c.args.run.moment) (call_of call)) old
+    (outcome_of c.read_link_here.result) old) (sym c.in-ReadLink.is) (c.read_link_here.ensures layout)
+
 pub returns-in-Read : goal.returns-in-Read
 returns-in-Read c =
     let n = named_of c.args.named in

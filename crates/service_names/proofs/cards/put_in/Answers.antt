@@ -14,3 +14,9 @@ returns-in-Directory-clause-others c =
     put-else c.args.fileid.0 (ownership_of c.args.owner) c.args.stripe.now (kind_value c.args.kind) c.set_card-in-Directory.new.self
     c.set_card-in-Directory.result
     (search rules) c.set_card-in-Directory.ensures.err
+
+pub returns-in-Special-clause-others : goal.returns-in-Special-clause-others
+returns-in-Special-clause-others c =
+    put-else c.args.fileid.0 (ownership_of c.args.owner) c.args.stripe.now (kind_value c.args.kind) c.set_card-in-Special.new.self
+    c.set_card-in-Special.result
+    (search rules) c.set_card-in-Special.ensures.err

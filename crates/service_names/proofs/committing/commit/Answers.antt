@@ -1,9 +1,9 @@
 use Rattle.std.proofs.Common.{◌≡◌, ℕ, [], Option, Some, Result, Ok, Err, sym, ap, ◌∙◌, subst, false, List}
 use Rattle.std.specs.FinMap.{get}
-use Rattle.nfs_model.specs.Types.{Answer, Success, CommitDone, Failed, Invalid}
+use Rattle.nfs_model.specs.Types.{SpecialType, Answer, Success, CommitDone, Failed, Invalid}
 use Rattle.nfs_model.specs.Tree.{Logical}
 use Rattle.nfs_model.specs.Shown.{before_of}
-use Rattle.nfs_model.specs.volume.Inodes.{Inode, RegularFile, DirectoryKind, inode_of}
+use Rattle.nfs_model.specs.volume.Inodes.{Inode, RegularFile, DirectoryKind, SpecialFile, inode_of}
 use Rattle.nfs_model.specs.volume.Logical.{LogicalValue}
 use Rattle.nfs_values.specs.Answer.{answer_of}
 use Rattle.nfs_values.specs.declared.answer.Answer.TheVariants.{Commit}
@@ -37,6 +37,11 @@ module _ (v fileid : ℕ) (set : LogicalSet) where
         ap (inode_committed v fileid set) there
         ∙ ap (file_committed (shown_inode v fileid inode (file_touch set.stripes fileid)) set.own.verifier) is
 
+    special-kind-told : (special : SpecialType) (size : ℕ) → inode.kind ≡ SpecialFile special size → commit_answer v fileid set ≡ Failed Invalid 2
+    special-kind-told special size is =
+        ap (inode_committed v fileid set) there
+        ∙ ap (file_committed (shown_inode v fileid inode (file_touch set.stripes fileid)) set.own.verifier) is
+
     file-told : (size filled : ℕ) (verifier : Option (List ℕ)) → inode.kind ≡ RegularFile size filled verifier
         → commit_answer v fileid set ≡ CommitDone (record {
           before = before_of (shown_inode v fileid inode (file_touch set.stripes fileid));
@@ -66,6 +71,17 @@ returns-in-Directory c =
       right = commits v fileid set (Err statuses.Invalid)
           (sym (directory-kind-told v fileid set (inode_value c.in-Some.inode) there c.in-Directory.parent.0 c.in-Directory.subdirectories
           (ap kind_value c.in-Directory.is)));
+    }
+
+pub returns-in-Special : goal.returns-in-Special
+returns-in-Special c =
+    let v = c.args.volume.0 in
+    let fileid = c.args.fileid.0 in
+    let set = logical_before c.args.held.now in
+    let there = sym (c.in-Some.ensures ∙ ap (λ (l : LogicalValue). inode_of l.inodes fileid) c.get.ensures) in
+    record {
+      right = commits v fileid set (Err statuses.Invalid)
+          (sym (special-kind-told v fileid set (inode_value c.in-Some.inode) there _ c.in-Special.size (ap kind_value c.in-Special.is)));
     }
 
 pub returns-in-RegularFile : goal.returns-in-RegularFile

@@ -6,6 +6,7 @@ use Rattle.nfs_model.specs.volume.Inodes.{inode_of, inodes_of_a_volume}
 use Rattle.nfs_values.specs.Ownership.{ownership_of}
 use Rattle.inodes.specs.Inode.{inode_value}
 use Rattle.service_names.specs.Cards.{InFirst, IsDropped}
+use Rattle.service_names.specs.Changing.{text_given}
 use Rattle.service_names.specs.Making.{node_unmade}
 use Rattle.service_names.proofs.Unmade.{was-last, was-made, all-back, places-alike, all-made}
 use Rattle.service_names.proofs.making.make_node.Goals as goal
@@ -18,7 +19,7 @@ create_inode-requires-clause-room c =
 
 pub unmake-requires-clause-last : goal.unmake-requires-clause-last
 unmake-requires-clause-last c =
-    was-last c.args.parent c.args.name.now c.args.held.now c.requires.may (inode_value c.args.made) c.fileid-fileid.result.0
+    was-last c.args.parent c.args.name.now c.args.held.now c.requires.may (inode_value c.args.made) (text_given c.args.text.now) c.fileid-fileid.result.0
     (c.fileid-fileid.ensures ∙ c.in_ok-created.ensures.fileid) c.create_inode.new.held c.tie.new.held c.in_ok-created.ensures.ok
     c.create_inode.ensures.stripes c.tie.ensures.others c.in-Err.ensures.err
     ∙ ap (λ (q : ℕ). q + 1) c.fileid-fileid.ensures
@@ -26,28 +27,28 @@ unmake-requires-clause-last c =
 pub unmake-requires-clause-made : goal.unmake-requires-clause-made
 unmake-requires-clause-made c =
     subst (λ (q : ℕ). is_some (inode_of c.tie.new.held.own.inodes q) ≡ true) c.fileid-fileid.ensures
-    (was-made c.args.parent c.args.name.now c.args.held.now c.requires.may (inode_value c.args.made) c.fileid-fileid.result.0
+    (was-made c.args.parent c.args.name.now c.args.held.now c.requires.may (inode_value c.args.made) (text_given c.args.text.now) c.fileid-fileid.result.0
     (c.fileid-fileid.ensures ∙ c.in_ok-created.ensures.fileid) c.create_inode.new.held c.tie.new.held c.in_ok-created.ensures.ok
     c.create_inode.ensures.stripes c.tie.ensures.others c.in-Err.ensures.err)
 
 pub returns-in-Ok-clause-ok : goal.returns-in-Ok-clause-ok
 returns-in-Ok-clause-ok c =
-    all-made c.args.parent c.args.name.now c.args.held.now c.requires.may (inode_value c.args.made) c.fileid-fileid.result.0
+    all-made c.args.parent c.args.name.now c.args.held.now c.requires.may (inode_value c.args.made) (text_given c.args.text.now) c.fileid-fileid.result.0
     (c.fileid-fileid.ensures ∙ c.in_ok-created.ensures.fileid) c.create_inode.new.held c.tie.new.held c.in_ok-created.ensures.ok
     c.create_inode.ensures.stripes c.tie.ensures.others
-    c.set_directory.new.held c.set_directory.ensures.stripes c.in_ok-name.name c.in_ok-name.ensures.name
+    c.set_directory.new.held c.set_directory.ensures.stripes c.in_ok-name.name c.in_ok-name.ensures.name c.in_ok-text.text c.in_ok-text.ensures
     c.in-Ok.ensures.own (ownership_of c.ownership-owner.result) c.ownership-owner.ensures c.in-Ok.ensures.cards c.set_directory.ensures.own
 
 pub returns-in-Ok-clause-alike : goal.returns-in-Ok-clause-alike
 returns-in-Ok-clause-alike c =
-    places-alike c.args.parent c.args.name.now c.args.held.now c.requires.may (inode_value c.args.made) c.fileid-fileid.result.0
+    places-alike c.args.parent c.args.name.now c.args.held.now c.requires.may (inode_value c.args.made) (text_given c.args.text.now) c.fileid-fileid.result.0
     (c.fileid-fileid.ensures ∙ c.in_ok-created.ensures.fileid) c.create_inode.new.held c.tie.new.held c.in_ok-created.ensures.ok
     c.create_inode.ensures.stripes c.tie.ensures.others
     c.set_directory.new.held c.set_directory.ensures.stripes
 
 pub returns-in-Err-clause-err : goal.returns-in-Err-clause-err
 returns-in-Err-clause-err c =
-    all-back c.args.parent c.args.name.now c.args.held.now c.requires.may (inode_value c.args.made) c.fileid-fileid.result.0
+    all-back c.args.parent c.args.name.now c.args.held.now c.requires.may (inode_value c.args.made) (text_given c.args.text.now) c.fileid-fileid.result.0
     (c.fileid-fileid.ensures ∙ c.in_ok-created.ensures.fileid) c.create_inode.new.held c.tie.new.held c.in_ok-created.ensures.ok
     c.create_inode.ensures.stripes c.tie.ensures.others
     c.in-Err.ensures.err c.unmake.new.held (c.unmake.ensures.own ∙ ap (λ (q : ℕ). node_unmade q c.tie.new.held.own) (sym c.fileid-fileid.ensures))

@@ -1,4 +1,4 @@
-use Rattle.std.proofs.Common.{sym}
+use Rattle.std.proofs.Common.{sym, None}
 use Rattle.nfs_values.specs.Moment.{moment_of}
 use Rattle.nfs_values.specs.Set.{set_of}
 use Rattle.filer_state.specs.state.Sets.{logical_before}
@@ -17,5 +17,5 @@ returns-in_err-told-clause-would c =
     let set = logical_before c.args.held.now in
     on-err c.from_residual.result
     (would-make (mkdir_check (set_of c.args.set.now) set) (naming_in_parent c.args.parent c.args.name.now set)
-    (made_directory_inode c.args.parent.fileid.0 (set_of c.args.set.now) (maker_in_parent c.args.caller.now c.args.parent) (moment_of c.args.parent.moment))
+    (made_directory_inode c.args.parent.fileid.0 (set_of c.args.set.now) (maker_in_parent c.args.caller.now c.args.parent) (moment_of c.args.parent.moment)) None
     (sym c.in_default.ensures))

@@ -17,5 +17,15 @@ returns-in-Directory c =
     let a = attributes_value c.args.inode.attributes in
     let is = ap kind_value c.in-Directory.is in
     c.shown-in-Directory.ensures
-    ∙ (ap (λ (k : InodeKind). shown_kind v q a k None) is
-    ∙ sym (ap (λ (k : InodeKind). shown_kind v q a k (file_touch (logical_before c.args.held.now).stripes q)) is))
+    ∙ (ap (λ (k : InodeKind). shown_kind v q a c.args.inode.names k None) is
+    ∙ sym (ap (λ (k : InodeKind). shown_kind v q a c.args.inode.names k (file_touch (logical_before c.args.held.now).stripes q)) is))
+
+pub returns-in-Special : goal.returns-in-Special
+returns-in-Special c =
+    let v = c.args.volume.0 in
+    let q = c.args.fileid.0 in
+    let a = attributes_value c.args.inode.attributes in
+    let is = ap kind_value c.in-Special.is in
+    c.shown-in-Special.ensures
+    ∙ (ap (λ (k : InodeKind). shown_kind v q a c.args.inode.names k None) is
+    ∙ sym (ap (λ (k : InodeKind). shown_kind v q a c.args.inode.names k (file_touch (logical_before c.args.held.now).stripes q)) is))

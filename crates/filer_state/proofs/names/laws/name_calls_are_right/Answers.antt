@@ -2,11 +2,18 @@ use Rattle.filer_state.specs.names.lemmas.Lookup.{lookup-right}
 use Rattle.filer_state.specs.names.lemmas.Listing.{readdir-right, readdir-starves, commit-right}
 use Rattle.filer_state.specs.names.lemmas.ListingPlus.{readdirplus-right, readdirplus-starves}
 use Rattle.filer_state.specs.names.lemmas.Objects.{access-right, fsinfo-right, pathconf-right}
+use Rattle.filer_state.specs.names.lemmas.Readlink.{readlink-right, readlink-starves}
 use Rattle.filer_state.specs.names.lemmas.Mount.{mount-right}
 use Rattle.filer_state.proofs.names.laws.name_calls_are_right.Goals as goal
 
 pub returns-clause-lookup : goal.returns-clause-lookup
 returns-clause-lookup c = λ v fileid handle name node moment set. lookup-right v fileid handle name node moment set
+
+pub returns-clause-readlink : goal.returns-clause-readlink
+returns-clause-readlink c = λ v fileid handle node set. readlink-right v fileid handle node set
+
+pub returns-clause-starved_link : goal.returns-clause-starved_link
+returns-clause-starved_link c = λ v fileid handle node set object text lists. readlink-starves v fileid handle node set object text lists
 
 pub returns-clause-readdir : goal.returns-clause-readdir
 returns-clause-readdir c = λ v fileid handle node cookie verifier count set. readdir-right v fileid handle node cookie verifier count set

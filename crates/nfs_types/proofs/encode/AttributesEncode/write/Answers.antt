@@ -1,4 +1,4 @@
-use Rattle.std.proofs.Common.{append_assoc}
+use Rattle.std.proofs.Common.{sym, append_assoc}
 use Rattle.nfs_types.proofs.encode.AttributesEncode.write.Goals as goal
 
 pub returns-clause-items : goal.returns-clause-items
@@ -10,6 +10,7 @@ returns-clause-items c =
       c.append-5.ensures.items,
       c.two_hypers-2.ensures,
       c.append-4.ensures.items,
+      c.two_words-3.ensures,
       c.append-3.ensures.items,
       c.two_hypers.ensures,
       c.write.ensures.items,
@@ -18,4 +19,5 @@ returns-clause-items c =
       c.append.ensures.items,
       c.two_words.ensures,
       c.word.ensures,
+      sym c.device-device.ensures,
     ) (simp append_assoc)

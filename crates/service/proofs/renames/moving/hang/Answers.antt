@@ -48,4 +48,4 @@ returns-clause-set c =
     c.directory_now-before.ensures c.with_dates-dated.ensures)
     (hung-is old one two new b child set c.set_inode.ensures.own c.set_inode.ensures.stripes (inode_value c.hung_inode-hung.result)
     (option_map moment_of c.take_touches-touch.result) c.take_touches-touch.ensures.latest
-    c.hung_inode-hung.ensures.attributes c.hung_inode-hung.ensures.kind)
+    c.hung_inode-hung.ensures.attributes c.hung_inode-hung.ensures.names c.hung_inode-hung.ensures.kind)

@@ -8,7 +8,6 @@ use Rattle.filer_state.specs.state.Changes.{LogicalAnswer}
 use Rattle.filer_state.specs.state.Lenses.{LogicalSet}
 use Rattle.filer_state.specs.state.Sets.{logical_before}
 use Rattle.service_names.specs.ChangeLaws.{rename_call}
-use Rattle.service_names.specs.NamedChanges.{node_under}
 use Rattle.service_names.specs.RenamingChanges.{held_renamed, rename_by, set_renamed}
 use Rattle.service_names.specs.Naming.{node_value}
 use Rattle.service.specs.renames.Renaming.{AllWithin, done_between, renaming_in}
@@ -20,22 +19,24 @@ pub returns-in-Some-clause-told : goal.returns-in-Some-clause-told
 returns-in-Some-clause-told c =
     let s = logical_before c.args.held.now in
     let r = renaming_in c.args.between c.args.from_name.now c.args.to_name.now s in
-    sym (ap (λ (a : LogicalAnswer). a.answer) (bad-place r (node_value c.args.child) (node_under r.to)
-    (done_between c.args.between c.args.from_name.now c.args.to_name.now s) c.requires.done c.requires.apart (status_of c.in-Some.fault)
+    sym (ap (λ (a : LogicalAnswer). a.answer) (bad-place r (node_value c.args.child) (option_map node_value c.args.target)
+    (done_between c.args.between c.args.from_name.now c.args.to_name.now s)
+    (c.requires.done ∙ ap (rename_by r (Some (node_value c.args.child))) (sym c.requires.upon)) c.requires.apart (status_of c.in-Some.fault)
     (c.in-Some.ensures c.args.from_name.now c.args.to_name.now)))
 
 pub returns-in-Some-clause-set : goal.returns-in-Some-clause-set
 returns-in-Some-clause-set c =
     let s = logical_before c.args.held.now in
     let r = renaming_in c.args.between c.args.from_name.now c.args.to_name.now s in
-    sym (ap (λ (a : LogicalAnswer). a.set) (bad-place r (node_value c.args.child) (node_under r.to)
-    (done_between c.args.between c.args.from_name.now c.args.to_name.now s) c.requires.done c.requires.apart (status_of c.in-Some.fault)
+    sym (ap (λ (a : LogicalAnswer). a.set) (bad-place r (node_value c.args.child) (option_map node_value c.args.target)
+    (done_between c.args.between c.args.from_name.now c.args.to_name.now s)
+    (c.requires.done ∙ ap (rename_by r (Some (node_value c.args.child))) (sym c.requires.upon)) c.requires.apart (status_of c.in-Some.fault)
     (c.in-Some.ensures c.args.from_name.now c.args.to_name.now)))
 
 pub move_node-requires : goal.move_node-requires
 move_node-requires c =
     may-move c.args.between c.args.from_name.now c.args.to_name.now (logical_before c.args.held.now) c.requires.whole c.requires.there
-    (node_value c.args.child) c.requires.under (option_map node_value c.child_at-target.result) c.child_at-target.ensures.node
+    (node_value c.args.child) c.requires.under (option_map node_value c.args.target) c.requires.upon
     (sym c.may_go.ensures ∙ c.if-not-may_go.false) c.requires.apart
 
 pub returns-in_err-move_node-clause-would : goal.returns-in_err-move_node-clause-would
@@ -43,11 +44,11 @@ returns-in_err-move_node-clause-would c =
     let s = logical_before c.args.held.now in
     let r = renaming_in c.args.between c.args.from_name.now c.args.to_name.now s in
     let child = node_value c.args.child in
-    let target = option_map node_value c.child_at-target.result in
+    let target = option_map node_value c.args.target in
     on-err c.from_residual.result
     (renamed r (set_renamed r child target) (done_between c.args.between c.args.from_name.now c.args.to_name.now s)
     (node-moved r child target (done_between c.args.between c.args.from_name.now c.args.to_name.now s)
-    (c.requires.done ∙ ap (rename_by r (Some child)) (sym c.child_at-target.ensures.node)) c.requires.apart
+    (c.requires.done ∙ ap (rename_by r (Some child)) (sym c.requires.upon)) c.requires.apart
     (c.in_default.ensures c.args.from_name.now c.args.to_name.now) (sym c.may_go.ensures ∙ c.if-not-may_go.false)))
 
 pub told-requires-clause-from : goal.told-requires-clause-from
@@ -66,10 +67,10 @@ told-requires-clause-now c =
     let b = c.args.between in
     let r = renaming_in b c.args.from_name.now c.args.to_name.now s in
     let child = node_value c.args.child in
-    let target = option_map node_value c.child_at-target.result in
+    let target = option_map node_value c.args.target in
     let done = done_between b c.args.from_name.now c.args.to_name.now s in
     let moved =
-    node-moved r child target done (c.requires.done ∙ ap (rename_by r (Some child)) (sym c.child_at-target.ensures.node)) c.requires.apart
+    node-moved r child target done (c.requires.done ∙ ap (rename_by r (Some child)) (sym c.requires.upon)) c.requires.apart
     (c.in_default.ensures c.args.from_name.now c.args.to_name.now) (sym c.may_go.ensures ∙ c.if-not-may_go.false) in
     subst (λ (x : LogicalSet). AllWithin x.own.inodes.inodes) (ap (λ (a : LogicalAnswer). a.set) moved ∙ sym c.in_ok-move_node.ensures.ok)
     (left-within b.volume.0 s c.requires.whole
@@ -82,10 +83,10 @@ returns-clause-told c =
     let s = logical_before c.args.held.now in
     let r = renaming_in c.args.between c.args.from_name.now c.args.to_name.now s in
     let child = node_value c.args.child in
-    let target = option_map node_value c.child_at-target.result in
+    let target = option_map node_value c.args.target in
     let moved =
     node-moved r child target (done_between c.args.between c.args.from_name.now c.args.to_name.now s)
-    (c.requires.done ∙ ap (rename_by r (Some child)) (sym c.child_at-target.ensures.node)) c.requires.apart
+    (c.requires.done ∙ ap (rename_by r (Some child)) (sym c.requires.upon)) c.requires.apart
     (c.in_default.ensures c.args.from_name.now c.args.to_name.now) (sym c.may_go.ensures ∙ c.if-not-may_go.false) in
     c.told.ensures c.args.from_name.now c.args.to_name.now s
     ∙ ap (λ (x : LogicalSet). (held_renamed r x).answer) c.in_ok-move_node.ensures.ok
