@@ -4,9 +4,12 @@ use Rattle.std.proofs.Crossing.{crosses, Box-send}
 use Rattle.std.proofs.MapsCrossing.{BTreeMap-send}
 use Rattle.inodes.proofs.inodes.Inodes.TheSendSync as inodes
 use Rattle.memos.proofs.memos.Memos.TheSendSync as memos
+use Rattle.nfs_values.proofs.name.Name.TheSendSync as name
 use Rattle.nfs_values.proofs.verifier.Verifier.TheSendSync as verifier
 use Rattle.filer_state.specs.contracts.directory_map.DirectoryMap as Map
 use Rattle.filer_state.specs.contracts.directory_map.DirectoryMap.TheInside as MapInside
+use Rattle.filer_state.specs.contracts.text_map.TextMap as Texts
+use Rattle.filer_state.specs.contracts.text_map.TextMap.TheInside as TextsInside
 use Rattle.filer_state.specs.contracts.logical.Logical as Logical
 use Rattle.filer_state.specs.contracts.logical.LogicalParcel as Parcel
 use Rattle.filer_state.specs.contracts.logical.LogicalParcel.TheInside as ParcelInside
@@ -21,6 +24,12 @@ map-inside-send = struct-send MapInside.the_type (search (directory-send, BTreeM
 map-send : IsSend Map.the_row
 map-send = view_send MapInside.the_row _ _ _ _ map-inside-send
 
+texts-inside-send : IsSend TextsInside.the_row
+texts-inside-send = struct-send TextsInside.the_type (search (name.the_send, BTreeMap-send, crosses, sendable) depth 20, tt)
+
+texts-send : IsSend Texts.the_row
+texts-send = view_send TextsInside.the_row _ _ _ _ texts-inside-send
+
 logical-send : IsSend Logical.the_row
 logical-send = struct-send Logical.the_type (
   verifier.the_field_send,
@@ -30,7 +39,7 @@ logical-send = struct-send Logical.the_type (
       search sendable depth 20,
       (
         search sendable depth 20,
-        (search sendable depth 20, (inodes.the_send, (map-send, (stock.the_send, (dead.the_send, (memos.the_send, tt)))))),
+        (search sendable depth 20, (inodes.the_send, (map-send, (texts-send, (stock.the_send, (dead.the_send, (memos.the_send, tt))))))),
       ),
     ),
   ),

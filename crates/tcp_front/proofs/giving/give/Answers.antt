@@ -2,17 +2,26 @@ use Rattle.std.proofs.Common.{List, refl, sym, subst, ◌∙◌}
 use Rattle.std.specs.Prelude.{OnOk}
 use Rattle.affinity.specs.Affinity.{call_node}
 use Rattle.affinity.specs.Layout.{layout_of}
+use Rattle.nfs_model.specs.Tree.{Layout}
 use Rattle.nfs_model.specs.Types as types
 use Rattle.nfs_values.specs.Call.{call_of}
 use Rattle.nfs_values.specs.Caller.{caller_of}
 use Rattle.rpc_msg.specs.declared.record.Request.{Request}
 use Rattle.engine_feed.specs.Seen.{asked_of}
+use Rattle.engine_feed.specs.Sound.{IsAdmitted}
 use Rattle.rpc_msg.specs.declared.record.Request.TheVariants.{Call, Refused, Undecoded}
 use Rattle.tcp_front.specs.Arrivals.{Arrival}
 use Rattle.tcp_front.specs.Steps.{given_of}
 use Rattle.tcp_front.specs.Peers.{sender_of}
 use Rattle.tcp_front.proofs.Fitting.{asked-by, waits-is, answered-is}
 use Rattle.tcp_front.proofs.giving.give.Goals as goal
+
+pub admit-requires-clause-admitted : goal.admit-requires-clause-admitted
+admit-requires-clause-admitted g c =
+    let a = c.in-Some.admission in
+    subst (λ (l : Layout). IsAdmitted l
+    (record { origin = c.args.origin; call = c.in-Call.call; caller = c.caller_at.result; affinity = a.affinity; room = a.room }))
+    (sym c.requires.layout) (record { node = c.in-Some.ensures.waits.node; room = c.in-Some.ensures.waits.room })
 
 pub returns-in-Some-clause-ok : goal.returns-in-Some-clause-ok
 returns-in-Some-clause-ok g c =
