@@ -4,6 +4,7 @@ pub mod Standing
 pub mod Scans
 pub mod Streams
 pub mod Chunks
+mod Headers
 pub mod Came
 pub mod Feeding
 pub mod Unique

@@ -7,7 +7,7 @@ ghost use Rattle.rpc_record.specs.declared.position.Turn.TheVariants as turns;
 use crate::position::{Position, Turn};
 use std::alloc::AllocError;
 
-/// Appends bytes. None, as at each byte of a header, cost no copy.
+/// Appends bytes. None, as in a header, cost no copy.
 fn append(joined: &mut Vec<u8>, bytes: &[u8]) -> Result<(), AllocError>
     ensures items { OnOk result (joined.new.items ≡ joined.old.items ++ bytes.now) }
     ensures len { OnOk result (vec_len joined.new ≡ vec_len joined.old + length bytes.now) }

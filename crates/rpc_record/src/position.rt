@@ -118,7 +118,8 @@ impl Position {
         Turn::Goes
     }
 
-    /// One byte of a header, or as much of a fragment's data as is there.
+    /// A header, at once where all of it is there and else a byte of it, or as much of a
+    /// fragment's data as is there.
     pub(crate) fn take(&mut self, bytes: &[u8]) -> (usize, Turn)
         requires some { 0 < length bytes.now }
         requires sound { IsPosition self.old }
@@ -129,6 +130,10 @@ impl Position {
         ensures sound { IsPosition self.new }
     {
         if self.left == 0 {
+            if self.count == 0 && 4 <= bytes.len() {
+                let number = BigEndian::read_u32(bytes);
+                return (4, self.end_header(number));
+            }
             return (1, self.take_header_byte(bytes[0]));
         }
         let size = self.left.min(bytes.len());
