@@ -25,7 +25,9 @@ ghost use Rattle.directories.specs.Hash.{name_hash};
 use crate::entries::Entries;
 use crate::guesses::Guesses;
 use crate::page::Page;
-use crate::search::{Around, find_between, find_position, guess_place, half_of, hash_of, whole};
+use crate::search::{
+    Around, find_between, find_position, guess_slot, half_of, hash_of, place_for, whole,
+};
 use crate::sequences::Sequence;
 use crate::spot::Spot;
 use nfs_values::answer::DirectoryEntry;
@@ -117,14 +119,11 @@ impl Directory {
         ensures compared { result.1 ≤ binary_digits (length self.now.list) }
     {
         let hash = hash_of(name);
-        match self.guesses.slot(hash) {
-            Some(slot) => {
-                let guesses = &self.guesses;
-                find_guessed(&self.entries, &self.by_name, guesses, name, hash, slot)
-            }
+        let guesses = &self.guesses;
+        match guess_slot(&self.by_name, guesses, hash) {
+            Some(slot) => find_guessed(&self.entries, &self.by_name, guesses, name, hash, slot),
             None => {
                 let around = whole(&self.by_name);
-                let guesses = &self.guesses;
                 find_fileid(&self.entries, &self.by_name, guesses, name, hash, around)
             }
         }
@@ -266,7 +265,7 @@ fn find_fileid(
     ensures answer { fileid_number result.0 ≡ fileid_found entries.now name.now }
     ensures compared { result.1 ≤ binary_digits (bounds.high - bounds.low) }
 {
-    let place = guess_place(by_name, hash);
+    let place = place_for(by_name, guesses, hash);
     let search = find_between(entries, by_name, name, hash, bounds, place);
     guesses.note(hash, search.position);
     if !search.is_there {

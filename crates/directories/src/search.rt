@@ -37,6 +37,14 @@ pub struct Around {
     pub high: usize,
 }
 
+/// Where in an index the names of a hash are guessed to begin.
+#[derive(Clone, Copy)]
+struct Guess {
+    place: usize,
+    /// The slot of the spot there, if that has the hash.
+    slot: Option<u32>,
+}
+
 /// What a search for a name has found.
 #[derive(Clone, Copy)]
 pub struct Search {
@@ -114,9 +122,29 @@ fn narrow_at(index: &Sequence<Spot>, hash: u32, bounds: Around, position: usize)
     bounds
 }
 
+/// A slot that the entry with a name of a hash is guessed in. Where none is kept for the hash, it is
+/// the slot at the place in the index where the hash is guessed, which is noted for a search.
+pub fn guess_slot(index: &Sequence<Spot>, guesses: &Guesses, hash: u32) -> Option<u32> {
+    if let Some(slot) = guesses.slot(hash) {
+        return Some(slot);
+    }
+    let guess = guess_place(index, hash);
+    guesses.note(hash, guess.place);
+    guess.slot
+}
+
+/// Where a search for the names of a hash begins: where the last one ended, if it was for that
+/// hash, or else where they are guessed.
+pub fn place_for(index: &Sequence<Spot>, guesses: &Guesses, hash: u32) -> usize {
+    match guesses.position(hash) {
+        Some(position) => position,
+        None => guess_place(index, hash).place,
+    }
+}
+
 /// Where in an index the names of a hash are guessed to begin. Hashes are spread evenly and chunks
 /// are in their order, so few chunks are looked at. Nothing rests on that but the time.
-pub fn guess_place(index: &Sequence<Spot>, hash: u32) -> usize {
+fn guess_place(index: &Sequence<Spot>, hash: u32) -> Guess {
     let size = index.len();
     let mut low = 0;
     let mut high = size;
@@ -137,11 +165,28 @@ pub fn guess_place(index: &Sequence<Spot>, hash: u32) -> usize {
             high = first;
             guess = first.saturating_sub(share(lowest - hash, size) + 1);
         } else {
-            let place = share_of(hash - lowest, highest - lowest, chunk.len());
-            return first.saturating_add(lower_in(chunk, hash, place));
+            let front = share_of(hash - lowest, highest - lowest, chunk.len());
+            return guess_in(chunk, first, hash, front);
         }
     }
-    low
+    Guess {
+        place: low,
+        slot: None,
+    }
+}
+
+/// Where among some spots of an index, of which the first is at a position, the names of a hash
+/// begin, if the spots are in the order of their hashes: at first one of them is guessed.
+fn guess_in(spots: &[Spot], first: usize, hash: u32, guess: usize) -> Guess {
+    let lower = lower_in(spots, hash, guess);
+    let slot = match spots.get(lower) {
+        Some(spot) if spot.hash == hash => Some(spot.slot),
+        _ => None,
+    };
+    Guess {
+        place: first.saturating_add(lower),
+        slot,
+    }
 }
 
 /// How many of some spots have lower hashes than one, if they are in the order of these: at first
@@ -188,10 +233,7 @@ pub fn find_position(
         → IsPosition entries.now (cookies index.now) name.now result.position }
 {
     let hash = hash_of(name);
-    let place = match guesses.position(hash) {
-        Some(position) => position,
-        None => guess_place(index, hash),
-    };
+    let place = place_for(index, guesses, hash);
     find_between(entries, index, name, hash, whole(index), place)
 }
 
