@@ -52,6 +52,7 @@ fn target(alloc: Global, bytes: &[u8]) -> Result<Target, Bad>
 }
 
 /// NULL (RFC 1813 section 3.3.0).
+#[inline(never)]
 fn null(bytes: &[u8]) -> Result<Call, Bad>
     ensures { Makes call_of false result (asked_by Void null_call bytes.now) }
 {
@@ -60,6 +61,7 @@ fn null(bytes: &[u8]) -> Result<Call, Bad>
 }
 
 /// GETATTR (RFC 1813 section 3.3.1).
+#[inline(never)]
 fn get_attributes(bytes: &[u8]) -> Result<Call, Bad>
     ensures { Makes call_of false result (asked_by handle_shape getattr_call bytes.now) }
 {
@@ -68,6 +70,7 @@ fn get_attributes(bytes: &[u8]) -> Result<Call, Bad>
 }
 
 /// SETATTR (RFC 1813 section 3.3.2).
+#[inline(never)]
 fn set_attributes(bytes: &[u8]) -> Result<Call, Bad>
     ensures { Makes call_of false result (asked_by setattr_shape setattr_call bytes.now) }
 {
@@ -78,6 +81,7 @@ fn set_attributes(bytes: &[u8]) -> Result<Call, Bad>
 }
 
 /// LOOKUP (RFC 1813 section 3.3.3).
+#[inline(never)]
 fn lookup(alloc: Global, bytes: &[u8]) -> Result<Call, Bad>
     ensures { Makes call_of true result (asked_by target_shape lookup_call bytes.now) }
 {
@@ -85,6 +89,7 @@ fn lookup(alloc: Global, bytes: &[u8]) -> Result<Call, Bad>
 }
 
 /// ACCESS (RFC 1813 section 3.3.4).
+#[inline(never)]
 fn check_access(bytes: &[u8]) -> Result<Call, Bad>
     ensures { Makes call_of false result (asked_by access_shape access_call bytes.now) }
 {
@@ -93,6 +98,7 @@ fn check_access(bytes: &[u8]) -> Result<Call, Bad>
 }
 
 /// READLINK (RFC 1813 section 3.3.5).
+#[inline(never)]
 fn read_link(bytes: &[u8]) -> Result<Call, Bad>
     ensures { Makes call_of false result (asked_by handle_shape readlink_call bytes.now) }
 {
@@ -101,6 +107,7 @@ fn read_link(bytes: &[u8]) -> Result<Call, Bad>
 }
 
 /// READ (RFC 1813 section 3.3.6).
+#[inline(never)]
 fn read(bytes: &[u8]) -> Result<Call, Bad>
     ensures { Makes call_of false result (asked_by range_shape read_call bytes.now) }
 {
@@ -113,6 +120,7 @@ fn read(bytes: &[u8]) -> Result<Call, Bad>
 }
 
 /// WRITE (RFC 1813 section 3.3.7).
+#[inline(never)]
 fn write(alloc: Global, bytes: &[u8]) -> Result<Call, Bad>
     ensures { Makes call_of true result (asked_by writing_shape write_call bytes.now) }
 {
@@ -128,6 +136,7 @@ fn write(alloc: Global, bytes: &[u8]) -> Result<Call, Bad>
 }
 
 /// WRITE, by the bytes of its record from one on, whose data stay in the record.
+#[inline(never)]
 fn write_in_place(record: Vec<u8>, from: usize) -> Result<Call, Bad>
     requires { from ≤ length record.items }
     ensures { Makes call_of true result
@@ -147,6 +156,7 @@ fn write_in_place(record: Vec<u8>, from: usize) -> Result<Call, Bad>
 }
 
 /// CREATE (RFC 1813 section 3.3.8).
+#[inline(never)]
 fn create(alloc: Global, bytes: &[u8]) -> Result<Call, Bad>
     ensures { Makes call_of true result (asked_by creating_shape create_call bytes.now) }
 {
@@ -156,6 +166,7 @@ fn create(alloc: Global, bytes: &[u8]) -> Result<Call, Bad>
 }
 
 /// MKDIR (RFC 1813 section 3.3.9).
+#[inline(never)]
 fn make_directory(alloc: Global, bytes: &[u8]) -> Result<Call, Bad>
     ensures { Makes call_of true result (asked_by making_shape mkdir_call bytes.now) }
 {
@@ -165,6 +176,7 @@ fn make_directory(alloc: Global, bytes: &[u8]) -> Result<Call, Bad>
 }
 
 /// SYMLINK (RFC 1813 section 3.3.10), whose name and text are copied once nothing is left over.
+#[inline(never)]
 fn make_symbolic_link(alloc: Global, bytes: &[u8]) -> Result<Call, Bad>
     ensures { Makes call_of true result (asked_by symlinking_shape symlink_call bytes.now) }
 {
@@ -177,6 +189,7 @@ fn make_symbolic_link(alloc: Global, bytes: &[u8]) -> Result<Call, Bad>
 }
 
 /// MKNOD (RFC 1813 section 3.3.11).
+#[inline(never)]
 fn make_device(alloc: Global, bytes: &[u8]) -> Result<Call, Bad>
     ensures { Makes call_of true result (asked_by mknodding_shape mknod_call bytes.now) }
 {
@@ -190,6 +203,7 @@ fn make_device(alloc: Global, bytes: &[u8]) -> Result<Call, Bad>
 }
 
 /// REMOVE (RFC 1813 section 3.3.12).
+#[inline(never)]
 fn remove(alloc: Global, bytes: &[u8]) -> Result<Call, Bad>
     ensures { Makes call_of true result (asked_by target_shape remove_call bytes.now) }
 {
@@ -197,6 +211,7 @@ fn remove(alloc: Global, bytes: &[u8]) -> Result<Call, Bad>
 }
 
 /// RMDIR (RFC 1813 section 3.3.13).
+#[inline(never)]
 fn remove_directory(alloc: Global, bytes: &[u8]) -> Result<Call, Bad>
     ensures { Makes call_of true result (asked_by target_shape rmdir_call bytes.now) }
 {
@@ -204,6 +219,7 @@ fn remove_directory(alloc: Global, bytes: &[u8]) -> Result<Call, Bad>
 }
 
 /// RENAME (RFC 1813 section 3.3.14), whose names are copied once nothing is left over.
+#[inline(never)]
 fn rename(alloc: Global, bytes: &[u8]) -> Result<Call, Bad>
     ensures { Makes call_of true result (asked_by renaming_shape rename_call bytes.now) }
 {
@@ -216,6 +232,7 @@ fn rename(alloc: Global, bytes: &[u8]) -> Result<Call, Bad>
 }
 
 /// LINK (RFC 1813 section 3.3.15).
+#[inline(never)]
 fn make_link(alloc: Global, bytes: &[u8]) -> Result<Call, Bad>
     ensures { Makes call_of true result (asked_by linking_shape link_call bytes.now) }
 {
@@ -225,6 +242,7 @@ fn make_link(alloc: Global, bytes: &[u8]) -> Result<Call, Bad>
 }
 
 /// READDIR (RFC 1813 section 3.3.16).
+#[inline(never)]
 fn read_directory(bytes: &[u8]) -> Result<Call, Bad>
     ensures { Makes call_of false result (asked_by listing_shape readdir_call bytes.now) }
 {
@@ -240,6 +258,7 @@ fn read_directory(bytes: &[u8]) -> Result<Call, Bad>
 }
 
 /// READDIRPLUS (RFC 1813 section 3.3.17), whose dircount bounds the names.
+#[inline(never)]
 fn read_directory_plus(bytes: &[u8]) -> Result<Call, Bad>
     ensures { Makes call_of false result
         (asked_by listing_plus_shape readdirplus_call bytes.now) }
@@ -257,6 +276,7 @@ fn read_directory_plus(bytes: &[u8]) -> Result<Call, Bad>
 }
 
 /// FSSTAT (RFC 1813 section 3.3.18).
+#[inline(never)]
 fn filesystem_status(bytes: &[u8]) -> Result<Call, Bad>
     ensures { Makes call_of false result (asked_by handle_shape fsstat_call bytes.now) }
 {
@@ -265,6 +285,7 @@ fn filesystem_status(bytes: &[u8]) -> Result<Call, Bad>
 }
 
 /// FSINFO (RFC 1813 section 3.3.19).
+#[inline(never)]
 fn filesystem_info(bytes: &[u8]) -> Result<Call, Bad>
     ensures { Makes call_of false result (asked_by handle_shape fsinfo_call bytes.now) }
 {
@@ -273,6 +294,7 @@ fn filesystem_info(bytes: &[u8]) -> Result<Call, Bad>
 }
 
 /// PATHCONF (RFC 1813 section 3.3.20).
+#[inline(never)]
 fn path_configuration(bytes: &[u8]) -> Result<Call, Bad>
     ensures { Makes call_of false result (asked_by handle_shape pathconf_call bytes.now) }
 {
@@ -281,6 +303,7 @@ fn path_configuration(bytes: &[u8]) -> Result<Call, Bad>
 }
 
 /// COMMIT (RFC 1813 section 3.3.21).
+#[inline(never)]
 fn commit(bytes: &[u8]) -> Result<Call, Bad>
     ensures { Makes call_of false result (asked_by range_shape commit_call bytes.now) }
 {
@@ -289,6 +312,7 @@ fn commit(bytes: &[u8]) -> Result<Call, Bad>
 }
 
 /// CENSUS of the admin program.
+#[inline(never)]
 fn census(bytes: &[u8]) -> Result<Call, Bad>
     ensures { Makes call_of false result (asked_by Void census_call bytes.now) }
 {
@@ -297,6 +321,7 @@ fn census(bytes: &[u8]) -> Result<Call, Bad>
 }
 
 /// GROW of the admin program.
+#[inline(never)]
 fn grow(bytes: &[u8]) -> Result<Call, Bad>
     ensures { Makes call_of false result (asked_by growing_shape grow_call bytes.now) }
 {
@@ -305,6 +330,7 @@ fn grow(bytes: &[u8]) -> Result<Call, Bad>
 }
 
 /// STOP of the admin program.
+#[inline(never)]
 fn stop(bytes: &[u8]) -> Result<Call, Bad>
     ensures { Makes call_of false result (asked_by Void stop_call bytes.now) }
 {
@@ -313,6 +339,7 @@ fn stop(bytes: &[u8]) -> Result<Call, Bad>
 }
 
 /// MNT of MOUNT (RFC 1813 appendix I, section 5.2.1), of a root or below one.
+#[inline(never)]
 fn mount(alloc: Global, bytes: &[u8]) -> Result<Call, Bad>
     ensures { Makes call_of true result (asked_by path_shape mnt_call bytes.now) }
 {
@@ -322,6 +349,7 @@ fn mount(alloc: Global, bytes: &[u8]) -> Result<Call, Bad>
 }
 
 /// DUMP of MOUNT (RFC 1813 appendix I, section 5.2.2).
+#[inline(never)]
 fn list_mounts(bytes: &[u8]) -> Result<Call, Bad>
     ensures { Makes call_of false result (asked_by Void dump_call bytes.now) }
 {
@@ -330,6 +358,7 @@ fn list_mounts(bytes: &[u8]) -> Result<Call, Bad>
 }
 
 /// UMNT of MOUNT (RFC 1813 appendix I, section 5.2.3).
+#[inline(never)]
 fn unmount(bytes: &[u8]) -> Result<Call, Bad>
     ensures { Makes call_of false result (asked_by path_shape umnt_call bytes.now) }
 {
@@ -338,6 +367,7 @@ fn unmount(bytes: &[u8]) -> Result<Call, Bad>
 }
 
 /// UMNTALL of MOUNT (RFC 1813 appendix I, section 5.2.4).
+#[inline(never)]
 fn unmount_all(bytes: &[u8]) -> Result<Call, Bad>
     ensures { Makes call_of false result (asked_by Void umntall_call bytes.now) }
 {
@@ -346,6 +376,7 @@ fn unmount_all(bytes: &[u8]) -> Result<Call, Bad>
 }
 
 /// EXPORT of MOUNT (RFC 1813 appendix I, section 5.2.5).
+#[inline(never)]
 fn list_exports(bytes: &[u8]) -> Result<Call, Bad>
     ensures { Makes call_of false result (asked_by Void export_call bytes.now) }
 {
