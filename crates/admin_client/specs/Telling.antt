@@ -151,14 +151,14 @@ abbrev pub told_by : (results : Shape) → ℕ → List ℕ → Result (Value re
 told_by results xid bytes = told_behind results (results_at xid bytes)
 
 -- what a call returned, seen by view, is what the reply tells
-abbrev pub Tells : {X Y : Type 0} → (X → Y) → Result X AdminFault → Result Y AdminFault → Type 0
-Tells view (Ok x) told = told ≡ Ok (view x)
-Tells view (Err fault) told = told ≡ Err fault
+abbrev pub TellsResult : {X Y : Type 0} → (X → Y) → Result X AdminFault → Result Y AdminFault → Type 0
+TellsResult view (Ok x) told = told ≡ Ok (view x)
+TellsResult view (Err fault) told = told ≡ Err fault
 
 -- the same of CENSUS, unless memory ran out
 abbrev pub TellsCensus : Result Census AdminFault → Result (Value census_shape) AdminFault → Type 0
 TellsCensus (Err NoMemory) told = Unit {0}
-TellsCensus returned told = Tells census_value returned told
+TellsCensus returned told = TellsResult census_value returned told
 
 -- counts that were read from the front, seen by view, unless memory ran out
 abbrev pub GivesCounts : {X : Type 0} → (X → List VolumeCount) → Result X AdminFault → Reads (List (Value count_shape)) → List ℕ → Type 0

@@ -2,7 +2,7 @@
 
 ghost use Rattle.std.specs.Prelude.{◌≡◌};
 ghost use Rattle.nfs_types.specs.Results.{census_shape};
-ghost use Rattle.admin_client.specs.Telling.{Tells, TellsCensus, growth_shape, growth_value};
+ghost use Rattle.admin_client.specs.Telling.{TellsResult, TellsCensus, growth_shape, growth_value};
 ghost use Rattle.admin_client.specs.Telling.{results_at, stopped_value, told_by};
 ghost use Rattle.xdr.specs.Shape.{Void};
 
@@ -42,7 +42,7 @@ pub fn read_census(alloc: Global, xid: u32, reply: &[u8]) -> Result<Census, Admi
 
 /// What the reply to a GROW of this xid tells.
 pub fn read_growth(xid: u32, reply: &[u8]) -> Result<Growth, AdminFault>
-    ensures { Tells growth_value result (told_by growth_shape xid reply.now) }
+    ensures { TellsResult growth_value result (told_by growth_shape xid reply.now) }
 {
     let mut from = results(xid, reply)?;
     let growth = read_outcome(&mut from)?;
@@ -52,7 +52,7 @@ pub fn read_growth(xid: u32, reply: &[u8]) -> Result<Growth, AdminFault>
 
 /// What the reply to a STOP of this xid tells: nothing, where the server stops.
 pub fn read_stop(xid: u32, reply: &[u8]) -> Result<(), AdminFault>
-    ensures { Tells stopped_value result (told_by Void xid reply.now) }
+    ensures { TellsResult stopped_value result (told_by Void xid reply.now) }
 {
     let from = results(xid, reply)?;
     from.end()?;

@@ -22,7 +22,7 @@ use Rattle.connections.specs.Taking.{Takes}
 use Rattle.connections.specs.Connections.{without_reply}
 use Rattle.connections.specs.Joining.{HasJoined}
 use Rattle.connections.specs.Owing.{Pays}
-use Rattle.connections.specs.Writing.{ComesTo, HasSent, HasWrittenParts, IsOutcome, Tells}
+use Rattle.connections.specs.Writing.{ComesTo, HasSent, HasWrittenParts, IsOutcome, TellsSent}
 use Rattle.connections.specs.lemmas.Owing.{pays-first, pays-more}
 use Rattle.connections.specs.lemmas.Taking.{takes-first, takes-more, takes-none, takes-out}
 use Rattle.connections.specs.lemmas.Writing.{record-some, records-append}
@@ -149,7 +149,7 @@ module _ {D : Type 0} (unread : D → Incoming) (written : D → Option (List �
       ∙ ap (λ (l : List ℕ). l ++ records_of (list_of alone)) (sym (h.bytes_are ∙ ap (λ (l : List ℕ). l ++ records_of h.joined) blank))
 
   tells-of : (r : Sent) (sent : List ℕ) → (r ≡ sents.All → ⊥) → ComesTo r old sent rest' new
-      → Tells r old sent rest' (get boxes'.waiting number) new
+      → TellsSent r old sent rest' (get boxes'.waiting number) new
   tells-of sents.All sent n c = absurd (n refl)
   tells-of sents.More sent n c = c
   tells-of sents.Blocked sent n c = c
@@ -192,7 +192,7 @@ parts-rest unread written number old new boxes owed rest rest' result s n = reco
   tells = by result n s.comes_to;
 }
   where
-    by : (r : Sent) → (r ≡ sents.All → ⊥) → ComesTo r old s.sent rest' new → Tells r old s.sent rest' (get boxes.waiting number) new
+    by : (r : Sent) → (r ≡ sents.All → ⊥) → ComesTo r old s.sent rest' new → TellsSent r old s.sent rest' (get boxes.waiting number) new
     by sents.All n c = absurd (n refl)
     by sents.More n c = c
     by sents.Blocked n c = c

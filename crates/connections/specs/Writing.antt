@@ -81,13 +81,13 @@ pub record HasSent {D : Type 0} (unread : D → Incoming) (written : D → Optio
   pub comes_to : ComesTo result old sent waiting' new
 
 -- What a call came to: nothing was there, or there was one write; and what an answer says of the outbox.
-abbrev pub Tells : {D : Type 0} → Sent → Watched D → List ℕ → List ℕ → Option (List ReplyMessage)
+abbrev pub TellsSent : {D : Type 0} → Sent → Watched D → List ℕ → List ℕ → Option (List ReplyMessage)
     → Watched D → Type 0
-Tells sents.All old sent left waiting new =
+TellsSent sents.All old sent left waiting new =
     IsOut waiting × (((left ≡ []) × (sent ≡ []) × (new ≡ old)) ⊎ ComesTo sents.All old sent left new)
-Tells sents.More old sent left waiting new = ComesTo sents.More old sent left new
-Tells sents.Blocked old sent left waiting new = ComesTo sents.Blocked old sent left new
-Tells sents.Failed old sent left waiting new = ComesTo sents.Failed old sent left new
+TellsSent sents.More old sent left waiting new = ComesTo sents.More old sent left new
+TellsSent sents.Blocked old sent left waiting new = ComesTo sents.Blocked old sent left new
+TellsSent sents.Failed old sent left waiting new = ComesTo sents.Failed old sent left new
 
 -- These replies were taken, and are owed no more; and a beginning of the rest and of their records went out.
 pub record HasWrittenParts {D : Type 0} (unread : D → Incoming) (written : D → Option (List ℕ)) (number : ℕ) (old : Watched D)
@@ -100,7 +100,7 @@ pub record HasWrittenParts {D : Type 0} (unread : D → Incoming) (written : D �
   pub split : rest ++ records_of taken ≡ sent ++ rest'
   pub went_out : Appends (written (device_of old)) (written (device_of new)) sent
   pub apart : GivesNone (unread (device_of old)) (unread (device_of new))
-  pub tells : Tells result old sent rest' (get boxes'.waiting number) new
+  pub tells : TellsSent result old sent rest' (get boxes'.waiting number) new
 
 -- whether nothing more is written after an answer
 abbrev pub breaks : Sent → Bool

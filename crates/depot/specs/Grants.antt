@@ -18,8 +18,8 @@ use Rattle.depot_rule.specs.Shares.{worn, too_many, made, Has}
 use Rattle.depot_rule.specs.Plays.{IsOnly, Counts, with_entry, HasAdded}
 use Rattle.depot.specs.Kinds.{AreOfKind}
 use Rattle.depot.specs.Calls.{IsAmong, IsRead, Refuses, IsExcluded}
-use Rattle.depot.specs.declared.grants.Refusal.{Refusal}
-use Rattle.depot.specs.declared.grants.Refusal.TheVariants.{Busy, Worn}
+use Rattle.depot.specs.declared.grants.GrantRefusal.{GrantRefusal}
+use Rattle.depot.specs.declared.grants.GrantRefusal.TheVariants.{Busy, Worn}
 
 -- the entry of a call on a node, with the parcels as it leaves them
 abbrev pub entry_of : {P C R : Type 0} → Layout → Affinity → (ℕ → Option P) → C → R → Entry P C R
@@ -81,7 +81,7 @@ module _ {P E : Type 0} where
       × (IsOnly v → (worn ≤ made v + 1) × (worn ≤ length v.seen + 1))
 
   -- a call on the node a was refused
-  abbrev pub IsRefused : Layout → View P E → codes.Affinity → Refusal → View P E → Type 0
+  abbrev pub IsRefused : Layout → View P E → codes.Affinity → GrantRefusal → View P E → Type 0
   IsRefused layout v a (Busy node word) w = IsNode layout (affinity_of node) × IsBusy (parents layout) v (number_of layout (affinity_of a))
       (number_of layout (affinity_of node)) word w
   IsRefused layout v a Worn w = IsWorn v w

@@ -18,8 +18,8 @@ use Rattle.depot_rule.specs.History.{Behaviour, behaviour, by_number}
 use Rattle.depot.specs.declared.depot.Depot.{Depot}
 use Rattle.depot.specs.declared.seats.Seat.{Seat}
 use Rattle.depot.specs.declared.grants.Grant.{Grant}
-use Rattle.depot.specs.declared.grants.Refusal.{Refusal}
-use Rattle.depot.specs.declared.grants.Refusal.TheVariants.{Busy, Worn}
+use Rattle.depot.specs.declared.grants.GrantRefusal.{GrantRefusal}
+use Rattle.depot.specs.declared.grants.GrantRefusal.TheVariants.{Busy, Worn}
 use Rattle.depot.specs.Calls.{known}
 use Rattle.depot.specs.Grants.{IsSeatOf, entry_of}
 
@@ -118,6 +118,6 @@ module _ {T N Held : Type 0} where
 -- ---- a refusal
 
 -- its number, as scripts print it
-abbrev pub refusal_number : Refusal → ℕ
+abbrev pub refusal_number : GrantRefusal → ℕ
 refusal_number (Busy node word) = 21
 refusal_number Worn = 22

@@ -5,13 +5,13 @@ ghost use Rattle.std.specs.Prelude.{◌≡◌};
 use crate::claiming::try_claim;
 use crate::depot::Depot;
 use crate::entered::Entered;
-use crate::grants::{Grant, Refusal};
+use crate::grants::{Grant, GrantRefusal};
 use crate::hold::Hold;
 use crate::homing::{give_home, stamp_call};
 use crate::plays::Look;
 use crate::seats::Seat;
 use crate::stamps::renew;
-use crate::table::Place;
+use crate::table::TableSeat;
 use affinity::Affinity;
 use atomic_table::Badge;
 use depot_rule::machine::Machine;
@@ -28,7 +28,7 @@ impl<M: Machine> Depot<M> {
     ghost use Rattle.affinity.specs.Tree.{IsNode};
     ghost use Rattle.depot.specs.Grants.{HasWith, IsBegun, IsAfter, IsStep, HasInHand};
     ghost use Rattle.depot.specs.Grants.{IsEnded, IsFinished, IsRefused, IsLast, HasGoneOn};
-    ghost use Rattle.depot.specs.declared.grants.Refusal.TheVariants.{Worn};
+    ghost use Rattle.depot.specs.declared.grants.GrantRefusal.TheVariants.{Worn};
     ghost use Rattle.depot.specs.Words.{machine_of, layout_in, view, splits_left};
     ghost use Rattle.depot.specs.Words.{IsSeatHere, IsNodeOf};
     ghost use Rattle.depot.specs.Words.{node_of, number_in, parcels_in, entry_with, IsWhole};
@@ -39,7 +39,7 @@ impl<M: Machine> Depot<M> {
         &self,
         seat: &mut Seat<M>,
         affinity: Affinity,
-    ) -> Result<Grant<M::Parcel, N>, Refusal>
+    ) -> Result<Grant<M::Parcel, N>, GrantRefusal>
         requires seat { IsSeatHere self.now seat.old }
         requires node { IsNodeOf (layout_in self.now) N.KIND affinity }
         ensures seat { IsSeatHere self.now seat.new }
@@ -56,11 +56,11 @@ impl<M: Machine> Depot<M> {
             IsRefused (layout_in self.now) (view seat.old) affinity refusal (view seat.new)) }
     {
         let board = &self.table.shared;
-        let mut place: Place<M> = mem::replace(&mut seat.badge, Badge::blank()).into_seat();
+        let mut place: TableSeat<M> = mem::replace(&mut seat.badge, Badge::blank()).into_seat();
         let ticket = board.load::<Look>(&mut place, 0);
         if ticket >= WORN {
             seat.badge = place.into_badge();
-            return Err(Refusal::Worn);
+            return Err(GrantRefusal::Worn);
         }
         let node = self.layout.number_of(affinity);
         match try_claim(board, &mut place, &self.parents, node) {
@@ -77,7 +77,7 @@ impl<M: Machine> Depot<M> {
             }
             Err(busy) => {
                 seat.badge = place.into_badge();
-                Err(Refusal::Busy {
+                Err(GrantRefusal::Busy {
                     node: self.layout.affinity_at(busy.node),
                     word: busy.word,
                 })
@@ -96,7 +96,7 @@ impl<M: Machine> Depot<M> {
         ensures ended { IsEnded (view seat.old) (number_in (layout_in self.now) grant)
             (view seat.new) }
     {
-        let place: Place<M> = mem::replace(&mut seat.badge, Badge::blank()).into_seat();
+        let place: TableSeat<M> = mem::replace(&mut seat.badge, Badge::blank()).into_seat();
         let board = &self.table.shared;
         let place = give_home(board, place, &self.layout, &self.parents, grant);
         seat.badge = place.into_badge();
@@ -129,7 +129,7 @@ impl<M: Machine> Depot<M> {
             (view seat.new) }
     {
         let board = &self.table.shared;
-        let mut place: Place<M> = mem::replace(&mut seat.badge, Badge::blank()).into_seat();
+        let mut place: TableSeat<M> = mem::replace(&mut seat.badge, Badge::blank()).into_seat();
         stamp_call::<M, N, C, A, Brand>(board, &mut place, &self.layout, &grant, call, reply);
         let place = give_home(board, place, &self.layout, &self.parents, grant);
         seat.badge = place.into_badge();
@@ -145,7 +145,7 @@ impl<M: Machine> Depot<M> {
         grant: &Grant<M::Parcel, N>,
         call: &C,
         reply: &A,
-    ) -> Result<(), Refusal>
+    ) -> Result<(), GrantRefusal>
         requires seat { IsSeatHere self.now seat.old }
         requires node { IsNode (layout_in self.now) (affinity_of (node_of grant.now)) }
         requires step { let L = layout_in self.now in
@@ -165,11 +165,11 @@ impl<M: Machine> Depot<M> {
             (refusal ≡ Worn) × IsLast (view seat.old) (view seat.new)) }
     {
         let board = &self.table.shared;
-        let mut place: Place<M> = mem::replace(&mut seat.badge, Badge::blank()).into_seat();
+        let mut place: TableSeat<M> = mem::replace(&mut seat.badge, Badge::blank()).into_seat();
         let ticket = board.load::<Look>(&mut place, 0);
         if ticket >= WORN - 1 {
             seat.badge = place.into_badge();
-            return Err(Refusal::Worn);
+            return Err(GrantRefusal::Worn);
         }
         stamp_call::<M, N, C, A, Brand>(board, &mut place, &self.layout, grant, call, reply);
         renew(board, &mut place);

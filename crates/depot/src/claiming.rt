@@ -12,14 +12,14 @@ ghost use Rattle.depot.specs.Places.{tree_of, IsOn, IsTreeOf, IsStill, AreHome, 
 
 use crate::path::{Busy, climb, leave_all};
 use crate::steps::{claim, release};
-use crate::table::{Board, Place};
+use crate::table::{Board, TableSeat};
 use depot_rule::machine::Machine;
 
 /// Claims a node: enters the words above it, and then takes its own. Either there is a grant, or
 /// the seat has no share more than before.
 pub fn try_claim<M: Machine>(
     board: &Board<M>,
-    place: &mut Place<M>,
+    place: &mut TableSeat<M>,
     parents: &[u64],
     node: usize,
 ) -> Result<(), Busy>
@@ -46,7 +46,7 @@ pub fn try_claim<M: Machine>(
 }
 
 /// Ends a grant whose parcels are all at home.
-pub fn give_up<M: Machine>(board: &Board<M>, place: &mut Place<M>, parents: &[u64], node: usize)
+pub fn give_up<M: Machine>(board: &Board<M>, place: &mut TableSeat<M>, parents: &[u64], node: usize)
     requires table { IsOn place.old.table_id board.now.table_id (tree_of board.now.key) node }
     requires tree { IsTreeOf parents.now (tree_of board.now.key) }
     requires ready { let v = view_of place.old.me.0 in

@@ -7,7 +7,7 @@ ghost use Rattle.affinity.specs.Numbers as numbers;
 use crate::closed::ClosedTable;
 use crate::meeting::{join_seat, meet, split_seat};
 use crate::seats::{Seat, TooManySeats};
-use crate::table::{DepotRule, Key, Opening, Place, ViewsOf};
+use crate::table::{DepotRule, Key, Opening, TableSeat, ViewsOf};
 use affinity::{Affinity, Layout};
 use atomic_table::Table;
 use depot_rule::machine::Machine;
@@ -209,7 +209,7 @@ impl<M: Machine> Depot<M> {
             parents: _,
         } = self;
         let Seat { badge, splits: _ } = seat;
-        let place: Place<M> = badge.into_seat();
+        let place: TableSeat<M> = badge.into_seat();
         let mut closed = ClosedTable {
             table: table.close_with(place),
         };

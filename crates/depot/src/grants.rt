@@ -14,14 +14,14 @@ pub struct Grant<T: HasKind, N: Node<T>> {
 
 /// Why a call doesn't begin.
 #[derive(Clone, Copy)]
-pub enum Refusal {
+pub enum GrantRefusal {
     /// The word of a node was found taken.
     Busy { node: Affinity, word: u64 },
     /// The ticket was read at 2^62 or more.
     Worn,
 }
 
-impl Refusal {
+impl GrantRefusal {
     ghost use Rattle.depot.specs.Words.{refusal_number};
 
     /// Its number, as scripts print it: 21 where a word was taken, 22 where the ticket was worn.
@@ -29,8 +29,8 @@ impl Refusal {
         ensures { result ≡ refusal_number self }
     {
         match self {
-            Refusal::Busy { node: _, word: _ } => 21,
-            Refusal::Worn => 22,
+            GrantRefusal::Busy { node: _, word: _ } => 21,
+            GrantRefusal::Worn => 22,
         }
     }
 }

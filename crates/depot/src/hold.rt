@@ -8,14 +8,14 @@ ghost use Rattle.depot.specs.Holds.{untaken, Lists, Handled};
 ghost use Rattle.depot.specs.Handling.{handled-itself, handled-on, lists-still};
 
 use crate::slots::{give_parcel, take_parcel};
-use crate::table::{Board, Place};
+use crate::table::{Board, TableSeat};
 use depot_rule::machine::Machine;
 use parcels::Shelf;
 
 /// A call that runs, and the node of the grant whose parcels it takes or gives.
 pub struct Hold<'a, M: Machine> {
     pub board: &'a Board<M>,
-    pub place: Place<M>,
+    pub place: TableSeat<M>,
     pub node: usize,
     ghost table: { (place.table_id ≡ board.now.table_id)
         × (board.now.table_id.words ≡ length (tree_of board.now.key)) },

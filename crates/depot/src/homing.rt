@@ -16,7 +16,7 @@ use crate::entered::Entered;
 use crate::grants::Grant;
 use crate::hold::Hold;
 use crate::stamps::{Said, stamp_as};
-use crate::table::{Board, EntryOf, Place};
+use crate::table::{Board, EntryOf, TableSeat};
 use affinity::Layout;
 use depot_rule::machine::Machine;
 use parcels::Node;
@@ -31,7 +31,7 @@ pub fn stamp_call<
     J: Said<EntryOf<M>>,
 >(
     board: &Board<M>,
-    place: &mut Place<M>,
+    place: &mut TableSeat<M>,
     layout: &Layout,
     grant: &Grant<M::Parcel, N>,
     call: &C,
@@ -67,11 +67,11 @@ pub fn stamp_call<
 /// Gives the parcels of a grant home, as its view lists them, and gives the grant up.
 pub fn give_home<M: Machine, N: Node<M::Parcel>>(
     board: &Board<M>,
-    place: Place<M>,
+    place: TableSeat<M>,
     layout: &Layout,
     parents: &[u64],
     grant: Grant<M::Parcel, N>,
-) -> Place<M>
+) -> TableSeat<M>
     requires table { (place.table_id ≡ board.now.table_id)
         × (board.now.table_id.words ≡ length (tree_of board.now.key)) }
     requires tree { (parents.now ≡ tree_of board.now.key)

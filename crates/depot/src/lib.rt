@@ -28,5 +28,5 @@ pub mod trial;
 
 pub use depot::Depot;
 pub use entered::Entered;
-pub use grants::{Grant, Refusal};
+pub use grants::{Grant, GrantRefusal};
 pub use seats::{Seat, TooManySeats};

@@ -7,7 +7,7 @@ ghost use Rattle.depot_rule.specs.LookingBack.{LooksBack};
 
 use crate::depot::Depot;
 use crate::seats::Seat;
-use crate::table::{Board, Place, ViewsOf};
+use crate::table::{Board, TableSeat, ViewsOf};
 use atomic_table::{Badge, Play};
 use depot_rule::machine::Machine;
 use std::marker::PhantomData;
@@ -25,7 +25,7 @@ impl<M: Machine> Play<Option<M::Parcel>, ViewsOf<M>> for LookBack<M> {
 }
 
 /// A load of the ticket, by which a seat looks back. Nothing changes.
-fn look_back<M: Machine>(board: &Board<M>, place: &mut Place<M>)
+fn look_back<M: Machine>(board: &Board<M>, place: &mut TableSeat<M>)
     requires table { (place.old.table_id ≡ board.now.table_id) × (0 < board.now.table_id.words) }
     requires one { length place.old.me.0 ≡ 1 }
     ensures seat { (place.new.table_id ≡ place.old.table_id) × (place.new.me ≡ place.old.me) }
@@ -48,7 +48,7 @@ impl<M: Machine> Depot<M> {
         ensures same { view seat.new ≡ view seat.old }
         ensures back { LooksBack (machine_of seat.old) (view seat.old) }
     {
-        let mut place: Place<M> = mem::replace(&mut seat.badge, Badge::blank()).into_seat();
+        let mut place: TableSeat<M> = mem::replace(&mut seat.badge, Badge::blank()).into_seat();
         look_back(&self.table.shared, &mut place);
         seat.badge = place.into_badge();
     }

@@ -10,7 +10,7 @@ ghost use Rattle.depot.specs.Words.{view, splits_left, HasTold, HasGrants};
 
 use crate::plays::{Alike, Meet, Merge, PartAgain, SplitOff};
 use crate::seats::Seat;
-use crate::table::{Board, Place};
+use crate::table::{Board, TableSeat};
 use atomic_table::Badge;
 use depot_rule::machine::Machine;
 use std::mem;
@@ -35,7 +35,7 @@ pub fn split_seat<M: Machine>(
         return Err(seat);
     }
     let Seat { badge, splits } = seat;
-    let mut place: Place<M> = badge.into_seat();
+    let mut place: TableSeat<M> = badge.into_seat();
     let second = board.split_seat::<SplitOff>(&mut place);
     Ok((
         Seat {
@@ -74,8 +74,8 @@ pub fn join_seat<M: Machine>(board: &Board<M>, first: Seat<M>, second: Seat<M>) 
         badge: other_badge,
         splits: other_splits,
     } = second;
-    let mut place: Place<M> = badge.into_seat();
-    let other: Place<M> = other_badge.into_seat();
+    let mut place: TableSeat<M> = badge.into_seat();
+    let other: TableSeat<M> = other_badge.into_seat();
     board.join_seat::<Merge>(&mut place, other);
     Seat {
         badge: place.into_badge(),
@@ -100,8 +100,8 @@ pub fn meet<M: Machine>(board: &Board<M>, one: &mut Seat<M>, other: &mut Seat<M>
     ensures splits { (splits_left one.new ≡ splits_left one.old)
         × (splits_left other.new ≡ splits_left other.old) }
 {
-    let mut first: Place<M> = mem::replace(&mut one.badge, Badge::blank()).into_seat();
-    let second: Place<M> = mem::replace(&mut other.badge, Badge::blank()).into_seat();
+    let mut first: TableSeat<M> = mem::replace(&mut one.badge, Badge::blank()).into_seat();
+    let second: TableSeat<M> = mem::replace(&mut other.badge, Badge::blank()).into_seat();
     board.join_seat::<Meet>(&mut first, second);
     board.load::<Alike>(&mut first, 0);
     let second = board.split_seat::<PartAgain>(&mut first);

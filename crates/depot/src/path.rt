@@ -7,7 +7,7 @@ ghost use Rattle.depot.specs.Calls.{MovedTo, FoundClaimed};
 ghost use Rattle.depot.specs.Places.{tree_of, IsOn, IsTreeOf, IsStill};
 
 use crate::steps::{enter, leave};
-use crate::table::{Board, Place};
+use crate::table::{Board, TableSeat};
 use depot_rule::machine::Machine;
 
 /// The word that refused a claim, and its node.
@@ -20,7 +20,7 @@ pub struct Busy {
 /// Enters the words of the nodes above a node. At a word that is found claimed, all are left again.
 pub fn climb<M: Machine>(
     board: &Board<M>,
-    place: &mut Place<M>,
+    place: &mut TableSeat<M>,
     parents: &[u64],
     node: usize,
 ) -> Result<(), Busy>
@@ -52,7 +52,12 @@ pub fn climb<M: Machine>(
 }
 
 /// Leaves the words of the nodes above a node.
-pub fn leave_all<M: Machine>(board: &Board<M>, place: &mut Place<M>, parents: &[u64], node: usize)
+pub fn leave_all<M: Machine>(
+    board: &Board<M>,
+    place: &mut TableSeat<M>,
+    parents: &[u64],
+    node: usize,
+)
     requires table { IsOn place.old.table_id board.now.table_id (tree_of board.now.key) node }
     requires tree { IsTreeOf parents.now (tree_of board.now.key) }
     requires ready { let v = view_of place.old.me.0 in

@@ -10,11 +10,11 @@ ghost use Rattle.depot_rule.specs.Seats.{view_of};
 ghost use Rattle.depot.specs.Places.{tree_of, IsOn};
 
 use crate::plays::{Empty, Fetch, Fill, Reach};
-use crate::table::{Board, Place};
+use crate::table::{Board, TableSeat};
 use depot_rule::machine::Machine;
 
 /// Takes the parcel of a node that a grant of the seat covers. Its slot stays at home, empty.
-pub fn take_parcel<M: Machine>(board: &Board<M>, place: &mut Place<M>, node: usize) -> M::Parcel
+pub fn take_parcel<M: Machine>(board: &Board<M>, place: &mut TableSeat<M>, node: usize) -> M::Parcel
     requires table { IsOn place.old.table_id board.now.table_id (tree_of board.now.key) node }
     requires ready { let v = view_of place.old.me.0 in
         (length place.old.me.0 ≡ 1) × (place.old.me.1 ≡ []) × (0 < node) × (v.out ≡ 0)
@@ -41,7 +41,7 @@ pub fn take_parcel<M: Machine>(board: &Board<M>, place: &mut Place<M>, node: usi
 /// Gives a parcel home that was taken, as the grant lists it.
 pub fn give_parcel<M: Machine>(
     board: &Board<M>,
-    place: &mut Place<M>,
+    place: &mut TableSeat<M>,
     node: usize,
     parcel: M::Parcel,
 )

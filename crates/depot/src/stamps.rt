@@ -9,7 +9,7 @@ ghost use Rattle.depot.specs.Grants.{IsStep, HasInHand, IsStamped, IsRenewed};
 ghost use Rattle.depot.specs.Places.{tree_of, IsStill, AreOut, Fits};
 
 use crate::plays::Renew;
-use crate::table::{Board, EntryOf, Place, ViewsOf};
+use crate::table::{Board, EntryOf, TableSeat, ViewsOf};
 use atomic_table::Play;
 use depot_rule::machine::Machine;
 use std::marker::{Brand, PhantomData};
@@ -37,7 +37,7 @@ impl<M: Machine, J: Said<EntryOf<M>>> Play<Option<M::Parcel>, ViewsOf<M>> for St
 
 /// Stamps the entry that was picked, of a grant all of whose parcels are taken. The answer is the
 /// ticket.
-pub fn stamp_as<M: Machine, J: Said<EntryOf<M>>>(board: &Board<M>, place: &mut Place<M>) -> u64
+pub fn stamp_as<M: Machine, J: Said<EntryOf<M>>>(board: &Board<M>, place: &mut TableSeat<M>) -> u64
     requires table { (place.old.table_id ≡ board.now.table_id) × (0 < board.now.table_id.words) }
     requires one { (length place.old.me.0 ≡ 1) × ((view_of place.old.me.0).stamped ≡ 0) }
     requires granted { let v = view_of place.old.me.0 in (e : _) × (g : _)
@@ -60,7 +60,7 @@ pub fn stamp_as<M: Machine, J: Said<EntryOf<M>>>(board: &Board<M>, place: &mut P
 }
 
 /// Grants anew what was stamped, by the right of a look. The answer is the ticket.
-pub fn renew<M: Machine>(board: &Board<M>, place: &mut Place<M>) -> u64
+pub fn renew<M: Machine>(board: &Board<M>, place: &mut TableSeat<M>) -> u64
     requires table { (place.old.table_id ≡ board.now.table_id) × (0 < board.now.table_id.words) }
     requires one { (length place.old.me.0 ≡ 1) × ((view_of place.old.me.0).looked ≡ 1) }
     ensures seat { IsStill place.old place.new }

@@ -12,7 +12,7 @@ ghost use Rattle.depot.specs.Grants.{IsAfter};
 ghost use Rattle.depot.specs.Places.{tree_of, IsOn, IsStill, AreHome, IsAlone};
 
 use crate::plays::{BackOut, Claim, Enter, Leave, Release};
-use crate::table::{Board, Place};
+use crate::table::{Board, TableSeat};
 use depot_rule::machine::Machine;
 
 /// The part of a word that says that its node is claimed.
@@ -20,7 +20,7 @@ pub const EXCLUSIVE: u64 = 1 << 32;
 
 /// Enters the word of a node. Where it is found claimed it is left again, and the answer is what
 /// was found.
-pub fn enter<M: Machine>(board: &Board<M>, place: &mut Place<M>, node: usize) -> Option<u64>
+pub fn enter<M: Machine>(board: &Board<M>, place: &mut TableSeat<M>, node: usize) -> Option<u64>
     requires table { IsOn place.old.table_id board.now.table_id (tree_of board.now.key) node }
     requires ready { let v = view_of place.old.me.0 in
         (length place.old.me.0 ≡ 1) × (0 < node) × (v.unsure ≡ 0) × (tally node v.path ≡ 0) }
@@ -41,7 +41,7 @@ pub fn enter<M: Machine>(board: &Board<M>, place: &mut Place<M>, node: usize) ->
 }
 
 /// Leaves the word that was entered last.
-pub fn leave<M: Machine>(board: &Board<M>, place: &mut Place<M>, node: usize)
+pub fn leave<M: Machine>(board: &Board<M>, place: &mut TableSeat<M>, node: usize)
     requires table { IsOn place.old.table_id board.now.table_id (tree_of board.now.key) node }
     requires ready { let v = view_of place.old.me.0 in
         (length place.old.me.0 ≡ 1) × (0 < node) × ((rest : List ℕ) × (v.path ≡ node ∷ rest)) }
@@ -56,7 +56,7 @@ pub fn leave<M: Machine>(board: &Board<M>, place: &mut Place<M>, node: usize)
 
 /// Claims a node whose words above are entered. The answer is what its word was: 0 where there is
 /// now a grant.
-pub fn claim<M: Machine>(board: &Board<M>, place: &mut Place<M>, node: usize) -> u64
+pub fn claim<M: Machine>(board: &Board<M>, place: &mut TableSeat<M>, node: usize) -> u64
     requires table { IsOn place.old.table_id board.now.table_id (tree_of board.now.key) node }
     requires ready { let v = view_of place.old.me.0 in
         (length place.old.me.0 ≡ 1) × (0 < node) × (v.unsure ≡ 0)
@@ -76,7 +76,7 @@ pub fn claim<M: Machine>(board: &Board<M>, place: &mut Place<M>, node: usize) ->
 }
 
 /// Gives up a grant whose parcels are all at home. The words above its node are still entered.
-pub fn release<M: Machine>(board: &Board<M>, place: &mut Place<M>, node: usize)
+pub fn release<M: Machine>(board: &Board<M>, place: &mut TableSeat<M>, node: usize)
     requires table { IsOn place.old.table_id board.now.table_id (tree_of board.now.key) node }
     requires ready { let v = view_of place.old.me.0 in
         (length place.old.me.0 ≡ 1) × (0 < node) × (v.path ≡ []) }

@@ -41,4 +41,4 @@ impl<M: Machine> TableRule<Option<M::Parcel>, ViewsOf<M>, Key<M>> for DepotRule<
 pub type Board<M> = Shared<Option<<M as Machine>::Parcel>, ViewsOf<M>, Key<M>, DepotRule<M>>;
 
 /// A seat while a call runs: it may have a slot.
-pub type Place<M> = Seat<Option<<M as Machine>::Parcel>, ViewsOf<M>>;
+pub type TableSeat<M> = Seat<Option<<M as Machine>::Parcel>, ViewsOf<M>>;

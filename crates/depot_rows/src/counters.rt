@@ -8,7 +8,7 @@ ghost use Rattle.depot_rows.specs.Counting.{AddsOne, HasSeenAsMuch, made_by};
 
 use affinity::{Affinity, Kind};
 use depot::trial::adding::{Adding, Change};
-use depot::{Depot, Refusal, Seat};
+use depot::{Depot, GrantRefusal, Seat};
 use parcels::{
     AggrHeld, AggregateNode, LogicalHeld, LogicalNode, Node, Numbers, Parcel, RangeHeld, RangeNode,
     SerialHeld, SerialNode, StripeHeld, StripeNode, VbnHeld, VbnNode, VolumeHeld, VolumeNode,
@@ -122,8 +122,8 @@ pub(crate) fn attempt<N: Node<Parcel<Numbers>>, C: Counter<N>>(
             let node = depot.layout().number_of(affinity) as u64;
             Ok((node, 1, sum))
         }
-        Err(Refusal::Busy { node, word: _ }) => Err(Found::Busy(node)),
-        Err(Refusal::Worn) => Err(Found::Other),
+        Err(GrantRefusal::Busy { node, word: _ }) => Err(Found::Busy(node)),
+        Err(GrantRefusal::Worn) => Err(Found::Other),
     }
 }
 

@@ -15,7 +15,7 @@ use Rattle.depot_rule.specs.History.{Behaviour}
 use Rattle.depot.specs.Grants.{entry_of, IsEnded, IsFinished}
 use Rattle.desk.specs.laws.Books.{Lent, Books, IsIdle}
 use Rattle.desk.specs.laws.Backing.{books_of, IsBook, IsGranted, IsWhole, IsDone, CanFinish, CanPutBack}
-use Rattle.desk.specs.laws.Calls.{Asks, Does, HasBegun, HasWorked, MayFinish, HasFinished, MayPutBack, HasPutBack, AreApart, MayEnd, HasEnded, MayMake}
+use Rattle.desk.specs.laws.Calls.{Asks, DoesTask, HasBegun, HasWorked, MayFinish, HasFinished, MayPutBack, HasPutBack, AreApart, MayEnd, HasEnded, MayMake}
 use Rattle.desk.specs.laws.Calls.{HasMade}
 use Rattle.desk.specs.laws.lemmas.Begins.{in-room, begun-desk, begun-so}
 use Rattle.desk.specs.laws.lemmas.Ends.{any-backed, any-lent, can-work, changed-desk, changed-so, can-finish, finished-desk, finished-so}
@@ -40,7 +40,7 @@ set-twice (z ∷ xs) (suc i) x y = ap (λ zs. z ∷ zs) (set-twice xs i x y)
 module _ {P C R B A U : Type 0} (kind : P → Kind) (m : Behaviour P C R B) (L : Layout) (lawful : fault_of L ≡ None) (v w : View P (Entry P C R))
     (gs : List (Option (Layout → Lent P))) (h : IsBook kind (books_of shown L v gs) v) (a : Affinity) (node : IsNode L a) (i : ℕ)
     (idle : IsIdle (books_of shown L v gs) i) (any : Layout → Lent P) (granted : IsGranted kind m L v a (any L) w) (entered : A → R) (asks : Asks P)
-    (does : Does P (Result A U)) (call : C) (may : MayMake m entered asks does (books_of shown L v gs) i a call) where
+    (does : DoesTask P (Result A U)) (call : C) (may : MayMake m entered asks does (books_of shown L v gs) i a call) where
   abbrev lent : List (Option (Layout → Lent P))
   lent = set gs i (Some any)
 

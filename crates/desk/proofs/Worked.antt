@@ -9,7 +9,7 @@ use Rattle.parcels.specs.Exact.{HasExactly}
 use Rattle.depot.specs.Words.{node_of, held_in}
 use Rattle.desk.specs.laws.Books.{Lent}
 use Rattle.desk.specs.laws.Backing.{IsDone}
-use Rattle.desk.specs.laws.Calls.{Does}
+use Rattle.desk.specs.laws.Calls.{DoesTask}
 use Rattle.desk.specs.declared.grant.NodeGrant.{NodeGrant}
 use Rattle.desk.specs.Any.{node_lent}
 
@@ -29,7 +29,7 @@ module _ {T N H : Type 0} {Q : kinds.Ghosts T} {G : nodes.Ghosts N T H} (L : tre
   as-left held exact = subst (λ x. HasExactly Q.kind L (affinity_of x) (G.parcels L (affinity_of x) held)) same exact
 
   -- what the task did, it did to what is lent
-  pub as-done : {O : Type 0} (does : Does T O) (l : Lent T) (before after : H) (outcome : O) → l ≡ node_lent L g → before ≡ held_in g.grant
+  pub as-done : {O : Type 0} (does : DoesTask T O) (l : Lent T) (before after : H) (outcome : O) → l ≡ node_lent L g → before ≡ held_in g.grant
       → does L (affinity_of a) (G.parcels L (affinity_of a) before) outcome (G.parcels L (affinity_of a) after)
       → IsDone does L l outcome (record { affinity = affinity_of (node_of g.grant); parcels = G.parcels L (affinity_of (node_of g.grant)) after })
   as-done does l before after outcome is value did =

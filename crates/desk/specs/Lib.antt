@@ -1,6 +1,6 @@
 pub mod Any
 pub mod Slots
-pub mod Refusal
+pub mod BeginRefusal
 pub mod Tasks
 pub mod Words
 pub mod laws

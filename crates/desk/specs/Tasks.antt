@@ -7,7 +7,7 @@ use Rattle.affinity.specs.declared.layout.Layout.{Layout}
 use Rattle.affinity.specs.Affinity.{affinity_of}
 use Rattle.affinity.specs.Layout.{layout_of}
 use Rattle.parcels.specs.Exact.{HasExactly}
-use Rattle.desk.specs.laws.Calls.{Asks, Does}
+use Rattle.desk.specs.laws.Calls.{Asks, DoesTask}
 
 -- the parcels of a set by the numbers of their nodes, as a kind of node tells them
 abbrev pub ParcelsOf : Type 0 → Type 0 → Type 0
@@ -23,7 +23,7 @@ abbrev pub Finds : {T H : Type 0} → Asks T → ParcelsOf T H → Layout → Af
 Finds asks parcels layout affinity held = asks (layout_of layout) (affinity_of affinity) (parcels (layout_of layout) (affinity_of affinity) held)
 
 -- what comes of a task on the set, and the set after it, are as the task does it
-abbrev pub Leaves : {T H O : Type 0} → Does T O → ParcelsOf T H → Layout → Affinity → H → O → H → Type 0
+abbrev pub Leaves : {T H O : Type 0} → DoesTask T O → ParcelsOf T H → Layout → Affinity → H → O → H → Type 0
 Leaves does parcels layout affinity old outcome new =
     does (layout_of layout) (affinity_of affinity) (parcels (layout_of layout) (affinity_of affinity) old) outcome
     (parcels (layout_of layout) (affinity_of affinity) new)

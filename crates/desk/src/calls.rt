@@ -6,13 +6,13 @@ use crate::desk::Desk;
 use crate::grants::{begin_in, finish_in, put_back_in};
 use crate::kinds::NodeKinds;
 use crate::nodes::{begin_node, finish_node, put_back_node};
-use crate::refusal::Refusal;
+use crate::refusal::BeginRefusal;
 use crate::taken::is_taken;
 use crate::task::Task;
 use crate::work_on::{WorkOn, work_on_node};
 use crate::working::work_in;
 use affinity::{Affinity, CallNode};
-use depot::{Entered, Refusal as Refused};
+use depot::{Entered, GrantRefusal as Refused};
 use depot_rule::machine::Machine;
 use parcels::Node;
 
@@ -25,13 +25,13 @@ impl<M: Machine, K: NodeKinds<M::Parcel>> Desk<M, K> {
     ghost use Rattle.desk.specs.laws.Calls.{HasBegun, MayWork, HasWorked};
     ghost use Rattle.desk.specs.laws.Calls.{MayFinish, HasFinished, MayPutBack, HasPutBack};
     ghost use Rattle.desk.specs.laws.Calls.{MayMake, HasMade};
-    ghost use Rattle.desk.specs.Refusal.{IsRefused};
+    ghost use Rattle.desk.specs.BeginRefusal.{IsRefused};
     ghost use Rattle.desk.specs.Words.{books, machine_in, IsKept};
 
     /// Lends the parcels under a node to an idle worker, unless something that is lent excludes it
     /// or 2^62 calls were finished. It takes no memory.
     #[inline(never)]
-    pub fn begin(&mut self, worker: usize, home: CallNode) -> Result<(), Refusal>
+    pub fn begin(&mut self, worker: usize, home: CallNode) -> Result<(), BeginRefusal>
         requires kept { IsKept self.old }
         requires node { IsNode (books self.old).layout (call_node home) }
         requires idle { IsIdle (books self.old) worker }
@@ -43,12 +43,12 @@ impl<M: Machine, K: NodeKinds<M::Parcel>> Desk<M, K> {
     {
         match begin_in(&self.depot, &mut self.seat, home, &mut self.slots[worker]) {
             Ok(()) => Ok(()),
-            Err(Refused::Busy { node: _, word: _ }) => Err(Refusal::Taken),
+            Err(Refused::Busy { node: _, word: _ }) => Err(BeginRefusal::Taken),
             Err(Refused::Worn) => {
                 if is_taken(self.depot.layout(), self.slots.as_slice(), home.node()) {
-                    return Err(Refusal::Taken);
+                    return Err(BeginRefusal::Taken);
                 }
-                Err(Refusal::Worn)
+                Err(BeginRefusal::Worn)
             }
         }
     }
@@ -115,7 +115,7 @@ impl<M: Machine, K: NodeKinds<M::Parcel>> Desk<M, K> {
         affinity: Affinity,
         call: &C,
         work: W,
-    ) -> Result<Result<A, U>, (W, Refusal)>
+    ) -> Result<Result<A, U>, (W, BeginRefusal)>
         requires kept { IsKept self.old }
         requires node { IsNodeOf (books self.old).layout N.KIND affinity }
         requires idle { IsIdle (books self.old) worker }
@@ -133,12 +133,12 @@ impl<M: Machine, K: NodeKinds<M::Parcel>> Desk<M, K> {
         let layout = self.depot.layout();
         let mut grant = match begin_node::<M, N>(&self.depot, &mut self.seat, affinity) {
             Ok(grant) => grant,
-            Err(Refused::Busy { node: _, word: _ }) => return Err((work, Refusal::Taken)),
+            Err(Refused::Busy { node: _, word: _ }) => return Err((work, BeginRefusal::Taken)),
             Err(Refused::Worn) => {
                 if is_taken(layout, self.slots.as_slice(), affinity) {
-                    return Err((work, Refusal::Taken));
+                    return Err((work, BeginRefusal::Taken));
                 }
-                return Err((work, Refusal::Worn));
+                return Err((work, BeginRefusal::Worn));
             }
         };
         let outcome = work_on_node::<M::Parcel, N, A, U, W>(layout, &mut grant, work);

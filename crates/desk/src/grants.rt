@@ -17,7 +17,7 @@ use crate::nodes::{begin_node, finish_node, put_back_node};
 use crate::putting::{put_large, put_small};
 use crate::slot::Slot;
 use affinity::{Affinity, CallNode};
-use depot::{Depot, Entered, Refusal, Seat};
+use depot::{Depot, Entered, GrantRefusal, Seat};
 use depot_rule::machine::Machine;
 
 /// Begins a call on an aggregate. It isn't inlined: else each begin would fill the room of such a
@@ -28,7 +28,7 @@ fn begin_aggregate<M: Machine, K: NodeKinds<M::Parcel>>(
     seat: &mut Seat<M>,
     affinity: Affinity,
     slot: &mut Slot<M::Parcel, K>,
-) -> Result<(), Refusal>
+) -> Result<(), GrantRefusal>
     requires seat { IsSeatHere depot.now seat.old }
     requires node { IsNodeOf (layout_in depot.now) K.Aggregate.KIND affinity }
     requires idle { granted slot.old ≡ None }
@@ -55,7 +55,7 @@ fn begin_serial<M: Machine, K: NodeKinds<M::Parcel>>(
     seat: &mut Seat<M>,
     affinity: Affinity,
     slot: &mut Slot<M::Parcel, K>,
-) -> Result<(), Refusal>
+) -> Result<(), GrantRefusal>
     requires seat { IsSeatHere depot.now seat.old }
     requires node { IsNodeOf (layout_in depot.now) K.Serial.KIND affinity }
     requires idle { granted slot.old ≡ None }
@@ -81,7 +81,7 @@ pub(crate) fn begin_in<M: Machine, K: NodeKinds<M::Parcel>>(
     seat: &mut Seat<M>,
     home: CallNode,
     slot: &mut Slot<M::Parcel, K>,
-) -> Result<(), Refusal>
+) -> Result<(), GrantRefusal>
     requires seat { IsSeatHere depot.now seat.old }
     requires node { IsNode (layout_in depot.now) (call_node home) }
     requires idle { granted slot.old ≡ None }

@@ -29,7 +29,7 @@ pub use grant::{LargeGrant, NodeGrant, SmallGrant};
 pub use kinds::{NodeKinds, ParcelKinds};
 pub use node_task::{TaskNode, work_node};
 pub use nodes::{begin_node, finish_node, go_on_node, put_back_node};
-pub use refusal::Refusal;
+pub use refusal::BeginRefusal;
 pub use slot::Slot;
 pub use task::Task;
 pub use work_on::{WorkOn, work_on_node};

@@ -4,14 +4,14 @@ ghost use Rattle.std.specs.Prelude.{◌≡◌, IfOk, OnOk, IfErr};
 ghost use Rattle.affinity.specs.Affinity.{affinity_of};
 ghost use Rattle.affinity.specs.Numbers.{number_of};
 ghost use Rattle.depot.specs.Grants.{entry_of, IsEnded, IsFinished, IsRefused, IsLast};
-ghost use Rattle.depot.specs.declared.grants.Refusal.TheVariants.{Worn};
+ghost use Rattle.depot.specs.declared.grants.GrantRefusal.TheVariants.{Worn};
 ghost use Rattle.depot.specs.Words.{machine_of, layout_in, view, splits_left, IsSeatHere, IsNodeOf};
 ghost use Rattle.desk.specs.laws.Backing.{IsGranted, CanFinish, CanPutBack, HasGoneOn};
 ghost use Rattle.desk.specs.Any.{node_lent};
 
 use crate::grant::NodeGrant;
 use affinity::Affinity;
-use depot::{Depot, Entered, Refusal, Seat};
+use depot::{Depot, Entered, GrantRefusal, Seat};
 use depot_rule::machine::Machine;
 use parcels::Node;
 
@@ -21,7 +21,7 @@ pub fn begin_node<M: Machine, N: Node<M::Parcel>>(
     depot: &Depot<M>,
     seat: &mut Seat<M>,
     affinity: Affinity,
-) -> Result<NodeGrant<M::Parcel, N>, Refusal>
+) -> Result<NodeGrant<M::Parcel, N>, GrantRefusal>
     requires seat { IsSeatHere depot.now seat.old }
     requires node { IsNodeOf (layout_in depot.now) N.KIND affinity }
     ensures seat { IsSeatHere depot.now seat.new }
@@ -68,7 +68,7 @@ pub fn go_on_node<M: Machine, N: Node<M::Parcel>, C: Entered<M::Call>, A: Entere
     node: &NodeGrant<M::Parcel, N>,
     call: &C,
     reply: &A,
-) -> Result<(), Refusal>
+) -> Result<(), GrantRefusal>
     requires seat { IsSeatHere depot.now seat.old }
     requires can { let L = layout_in depot.now in
         CanFinish M.Parcel.kind (machine_of seat.old) L (view seat.old) (node_lent L node.now)

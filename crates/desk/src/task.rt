@@ -4,7 +4,7 @@ ghost use Rattle.affinity.specs.Affinity.{affinity_of};
 ghost use Rattle.affinity.specs.Layout.{layout_of};
 ghost use Rattle.affinity.specs.Tree.{IsNode};
 ghost use Rattle.desk.specs.Tasks.{HasAll, Finds, Leaves};
-ghost use Rattle.desk.specs.laws.Calls.{Asks, Does};
+ghost use Rattle.desk.specs.laws.Calls.{Asks, DoesTask};
 
 use crate::kinds::NodeKinds;
 use affinity::{Affinity, HasKind, Layout};
@@ -19,7 +19,7 @@ pub trait Task<T: HasKind, K: NodeKinds<T>> {
     ghost asks: { Self → Asks T };
 
     // Of the layout, the affinity, its parcels before, what comes of it, and its parcels after.
-    ghost does: { Self → Does T Self.Output };
+    ghost does: { Self → DoesTask T Self.Output };
 
     /// Works on the parcels of a stripe.
     fn on_stripe(

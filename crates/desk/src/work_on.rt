@@ -7,7 +7,7 @@ ghost use Rattle.affinity.specs.Tree.{IsNode};
 ghost use Rattle.desk.specs.Any.{node_lent};
 ghost use Rattle.desk.specs.Tasks.{HasAll, Finds, Leaves};
 ghost use Rattle.desk.specs.laws.Backing.{IsWhole, IsDone};
-ghost use Rattle.desk.specs.laws.Calls.{Asks, Does};
+ghost use Rattle.desk.specs.laws.Calls.{Asks, DoesTask};
 
 use crate::grant::NodeGrant;
 use affinity::{Affinity, HasKind, Layout};
@@ -20,7 +20,7 @@ pub trait WorkOn<T: HasKind, N: Node<T>, A, U> {
     ghost asks: { Self → Asks T };
 
     // Of the layout, the affinity, its parcels before, what comes of it, and its parcels after.
-    ghost does: { Self → Does T (Result A U) };
+    ghost does: { Self → DoesTask T (Result A U) };
 
     /// Works on the parcels of the node.
     fn work_on(self, layout: &Layout, affinity: Affinity, held: &mut N::Held) -> Result<A, U>

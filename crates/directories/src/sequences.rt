@@ -10,5 +10,5 @@ mod sequence;
 mod tree;
 
 pub use part::Part;
-pub use room::Room;
+pub use room::SpareChunk;
 pub use sequence::Sequence;

@@ -18,7 +18,7 @@ use Rattle.engine.specs.declared.worker.WorkerRun.TheVariants.{Idle}
 use Rattle.engine.specs.Inner.{call_asked, FitsAsked, HasAsked, MayAsk, MayTend}
 use Rattle.engine.specs.Seen.{setup_in, world, answer_of}
 use Rattle.engine.specs.Sound.{IsSoundEngine}
-use Rattle.engine.specs.Words.{Does}
+use Rattle.engine.specs.Words.{DoesEvent}
 use Rattle.engine.specs.Workers.{worker_with, HandTaken}
 use Rattle.engine.proofs.Carried.{put-as, put-nothing}
 use Rattle.engine.proofs.Free.{in-hand, has-call, may_put}
@@ -50,14 +50,14 @@ module _ (s : State) (sound : IsSoundEngine s) (i : ℕ) (free : is_idle (slice_
 
   -- what came of it is the event's
   pub put_so : (answer : Result Done Refusal) (new : State) (hand : Hand) → slice_get s.workers.items i ≡ Some (worker_with Idle hand)
-      → HasAsked s i (call_to_put (layout_in s.calls) hand) answer new → Does s (PutDown i) answer new
+      → HasAsked s i (call_to_put (layout_in s.calls) hand) answer new → DoesEvent s (PutDown i) answer new
   put_so answer new hand there asked = by (call_to_put (layout_in s.calls) hand) refl asked
     where
-      by : (o : Option InnerCall) → call_to_put (layout_in s.calls) hand ≡ o → HasAsked s i o answer new → Does s (PutDown i) answer new
+      by : (o : Option InnerCall) → call_to_put (layout_in s.calls) hand ≡ o → HasAsked s i o answer new → DoesEvent s (PutDown i) answer new
       by (Some call) is did =
           put-as (setup_in s) (world s) i free (answer_of answer) (world new) hand (in-hand s sound i free (worker_with Idle hand) there) call is did
       by None is did =
-          subst (λ (a : Result Done Refusal). Does s (PutDown i) a new) (sym did.0) (
+          subst (λ (a : Result Done Refusal). DoesEvent s (PutDown i) a new) (sym did.0) (
             inl (put-nothing (setup_in s) (world s) i free hand (in-hand s sound i free (worker_with Idle hand) there)
                 (has-call s sound i free (worker_with Idle hand) there is)),
             did.1,

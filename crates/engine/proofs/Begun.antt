@@ -33,7 +33,7 @@ use Rattle.engine.specs.declared.worker.WorkerRun.TheVariants.{Idle, Begun}
 use Rattle.engine.specs.declared.state.State.{State}
 use Rattle.engine.specs.Seen.{connection_seen, held_in, setup_in, world}
 use Rattle.engine.specs.Sound.{IsSoundEngine, running_messages, room_on}
-use Rattle.engine.specs.Words.{Does}
+use Rattle.engine.specs.Words.{DoesEvent}
 use Rattle.engine.specs.Workers.{worker_with}
 use Rattle.engine.proofs.Workers.{seen-at}
 use Rattle.engine.proofs.Lists.{all-at, all-removed, total-removed}
@@ -85,7 +85,7 @@ module _ (s new : State) (sound : IsSoundEngine s) (i place : ℕ) (r : Running)
       (server_of (filer_contents c.layout (now c))) (all_parts (filer_contents c.layout (now c))) (stamps c)
       (begun-server b c i _ begins) (begun-parts b c i _ begins) same_stamps
 
-  pub begun_events : r.moment.nanoseconds < 1000000000 → Does s (events.Begin i place (moment_of r.moment)) (Ok (dones.Granted r.message.affinity)) new
+  pub begun_events : r.moment.nanoseconds < 1000000000 → DoesEvent s (events.Begin i place (moment_of r.moment)) (Ok (dones.Granted r.message.affinity)) new
   begun_events early =
       let happens = begin-happens job_of job_reply_of (setup_in s) (world s) (books s.desk) sound.stands i place (moment_of r.moment) (message_of r.message)
       (ap is_idle (seen-at s.workers.items i (worker_with Idle hand) h.there)) waits (good-moment (moment_of r.moment) early) (books new.desk) begins in

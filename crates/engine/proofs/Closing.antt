@@ -21,7 +21,7 @@ use Rattle.engine.specs.declared.event.Refusal.TheVariants as refusals
 use Rattle.engine.specs.declared.state.State.{State}
 use Rattle.engine.specs.Seen.{connection_seen, held_in, world}
 use Rattle.engine.specs.Sound.{IsSoundEngine}
-use Rattle.engine.specs.Words.{Does}
+use Rattle.engine.specs.Words.{DoesEvent}
 use Rattle.engine.proofs.Keyed.{found-open, is-shut, closed, closed-keyed}
 use Rattle.engine.proofs.Reconnected.{reconnected}
 
@@ -107,7 +107,7 @@ closed-seen s i o c there stream output finished =
 -- ---- a connection that is kept under a key
 
 -- a number that has none open
-pub shut-events : (s : State) (i : ℕ) → key_at (slice_get s.connections.items i) ≡ None → Does s (events.Close i) (Err refusals.Closed) s
+pub shut-events : (s : State) (i : ℕ) → key_at (slice_get s.connections.items i) ≡ None → DoesEvent s (events.Close i) (Err refusals.Closed) s
 shut-events s i none = (inl (may-not-close s i none), refl)
 
 module _ (s : State) (sound : IsSoundEngine s) (i key : ℕ) (at : slice_get s.connections.items i ≡ Some (places.Open key)) (o : ConnectionState)
@@ -123,7 +123,7 @@ module _ (s : State) (sound : IsSoundEngine s) (i key : ℕ) (at : slice_get s.c
   set_to = closed s.connections.items s.slab slab' sound.keyed i key at updates c
 
   pub closes : c.stream.items ≡ (connection_of o).stream → c.output.items ≡ (connection_of o).output → c.finished ≡ length (finished_of s.calls)
-      → Does s (events.Close i) (Ok dones.Closed) shut
+      → DoesEvent s (events.Close i) (Ok dones.Closed) shut
   closes stream output finished = (
     may-close (held_in s) i o stood,
     (

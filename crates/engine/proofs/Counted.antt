@@ -15,7 +15,7 @@ use Rattle.nfs_model.specs.Parts.{hand_blocks}
 use Rattle.affinity.specs.Numbers.{number_of, parents}
 use Rattle.depot_rule.specs.History.{patched}
 use Rattle.desk.specs.laws.Books.{Lent, now, HasLent}
-use Rattle.desk.specs.laws.Calls.{Does, MayWork, HasWorked}
+use Rattle.desk.specs.laws.Calls.{DoesTask, MayWork, HasWorked}
 use Rattle.desk.specs.Words.{books}
 use Rattle.filer_state.specs.state.Parcels.{FilerParcel}
 use Rattle.filer_state.specs.state.Contents.{contents_of, filer_contents}
@@ -119,7 +119,7 @@ module _ {P C R : Type 0} where
       })
 
   -- what a worker has after its work
-  module _ {O : Type 0} (does : Does (FilerParcel P) O) (b c : FilerBooks P C R) (i : ℕ) (o : O) (h : HasWorked does b i o c) (counts : List VolumeCounts)
+  module _ {O : Type 0} (does : DoesTask (FilerParcel P) O) (b c : FilerBooks P C R) (i : ℕ) (o : O) (h : HasWorked does b i o c) (counts : List VolumeCounts)
       (right : IsCounted b.layout counts (now b)) where
     abbrev l : Lent (FilerParcel P)
     l = record { affinity = h.lent.affinity; parcels = h.parcels }

@@ -54,7 +54,7 @@ use Rattle.rpc_msg.specs.declared.handle_form.HandleForm.{HandleForm}
 use Rattle.rpc_msg.specs.Offer.{form_of}
 use Rattle.rpc_msg.specs.Handles.{reply_told}
 use Rattle.engine.specs.Sound.{IsPlaced, IsReady, IsSoundEngine, MayEnd, running_messages, room_on, rooms_on}
-use Rattle.engine.specs.Words.{Does}
+use Rattle.engine.specs.Words.{DoesEvent}
 use Rattle.engine.specs.Workers.{worker_with}
 use Rattle.engine.proofs.Lists.{all-at}
 use Rattle.engine.proofs.Workers.{seen-at, seen-ran, count-changed}
@@ -149,7 +149,7 @@ module _ (s : State) (sound : IsSoundEngine s) (i : ℕ) (r : Running) (o : Outc
           (server_of (filer_contents (held new).layout (now (held new)))) (all_parts (filer_contents (held new).layout (now (held new)))) (stamps (held new))
           (server-kept (held s) (held new) back_layout back.same) (parts-kept (held s) (held new) back_layout back.same) back_stamps
 
-      pub back_events : Does s (events.Finish i) (Ok dones.PutBack) new
+      pub back_events : DoesEvent s (events.Finish i) (Ok dones.PutBack) new
       back_events = (
         happens.0,
         (
@@ -240,7 +240,7 @@ module _ (s : State) (sound : IsSoundEngine s) (i : ℕ) (r : Running) (o : Outc
           ∙ ap (λ bs. length (bytes_if_open (Some (connection_seen place)) bs)) (sym spelled)
           ∙ ap (λ p. length (bytes_if_open p ((setup_in s).codec.reply_record r.message.origin.xid (reply_of reply)))) (sym at_world)
 
-      pub ended_events : Does s (events.Finish i) (Ok (dones.Written r.message.origin.connection count)) new
+      pub ended_events : DoesEvent s (events.Finish i) (Ok (dones.Written r.message.origin.connection count)) new
       ended_events = (
         happens.0,
         (

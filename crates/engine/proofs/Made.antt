@@ -12,9 +12,9 @@ use Rattle.filer_state.specs.laws.lemmas.Each.{each-get}
 use Rattle.desk.specs.laws.Books.{Lent, settled, stamps}
 use Rattle.desk.specs.laws.Calls as desks
 use Rattle.desk.specs.laws.Calls.{HasBegun, MayWork, HasWorked, MayFinish, HasFinished, MayPutBack, HasPutBack, AreApart, MayEnd, HasEnded}
-use Rattle.desk.specs.Refusal.{IsRefused}
-use Rattle.desk.specs.declared.refusal.Refusal as declined
-use Rattle.desk.specs.declared.refusal.Refusal.TheVariants.{Taken, Worn}
+use Rattle.desk.specs.BeginRefusal.{IsRefused}
+use Rattle.desk.specs.declared.refusal.BeginRefusal as declined
+use Rattle.desk.specs.declared.refusal.BeginRefusal.TheVariants.{Taken, Worn}
 use Rattle.engine.specs.laws.Store.{FilerBooks, filer, IsApart}
 use Rattle.engine.specs.laws.lemmas.Making as laws
 use Rattle.service.specs.Inner.{AsksForInner, InnerHasRun, InnerOutcome, IsHandFor, IsInner}
@@ -117,10 +117,10 @@ module _ {P A : Type 0} (entered : A → JobReply) (b : FilerBooks P Job JobRepl
 
 -- ---- at once
 
-module _ {P A : Type 0} (entered : A → JobReply) (asks : desks.Asks (FilerParcel P)) (does : desks.Does (FilerParcel P) (InnerOutcome A))
+module _ {P A : Type 0} (entered : A → JobReply) (asks : desks.Asks (FilerParcel P)) (does : desks.DoesTask (FilerParcel P) (InnerOutcome A))
     (b : FilerBooks P Job JobReply) (i : ℕ) (call : InnerCall) (hand : Hand) (inner : IsInner (λ reply. job_reply_of (entered reply)) asks does call hand)
     (may : MayMake b i call hand) (entry : Job) (is_entry : job_of entry ≡ Inner call) where
-  abbrev does_so : desks.Does (FilerParcel P) (InnerOutcome A)
+  abbrev does_so : desks.DoesTask (FilerParcel P) (InnerOutcome A)
   does_so = InnerHasRun (λ reply. job_reply_of (entered reply)) call hand
 
   apart-so : (c : FilerBooks P Job JobReply) → AreApart c → IsApart c
@@ -186,7 +186,7 @@ module _ {P A : Type 0} (entered : A → JobReply) (asks : desks.Asks (FilerParc
       hand_at_once = hand_back entered b i call hand may h.begun h.begins (apart-so h.begun h.apart) h.worked o works back is
 
 -- why it doesn't begin
-pub refused_so : {P : Type 0} (b : FilerBooks P Job JobReply) (call : InnerCall) (refusal : declined.Refusal) → IsRefused b (inner_node call) refusal
+pub refused_so : {P : Type 0} (b : FilerBooks P Job JobReply) (call : InnerCall) (refusal : declined.BeginRefusal) → IsRefused b (inner_node call) refusal
     → IsRefusedFor b call (refusal_by refusal)
 refused_so b call Taken why = why
 refused_so b call Worn why = why

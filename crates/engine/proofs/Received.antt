@@ -46,7 +46,7 @@ use Rattle.engine.specs.declared.worker.Worker.{Worker}
 use Rattle.engine.specs.Receiving.{takes_bytes, IsFed, ReceivesUnder}
 use Rattle.engine.specs.Seen.{connection_seen, held_in, setup_in, world}
 use Rattle.engine.specs.Sound.{IsSoundEngine, IsPlaced, IsReady, room_on}
-use Rattle.engine.specs.Words.{Does}
+use Rattle.engine.specs.Words.{DoesEvent}
 use Rattle.engine.proofs.Lists.{all-after, all-later, set-here, set-elsewhere}
 use Rattle.engine.proofs.Placed.{kept_on, room-own, room-other}
 use Rattle.engine.proofs.Workers.{count-running}
@@ -284,7 +284,7 @@ module _ (s new : State) (number : ℕ) (d d' : Held) (at : slice_get (held_in s
 
 -- the connection of a number that has none open takes nothing
 pub shut-events : (s : State) (i : ℕ) (bytes : List ℕ) → key_at (slice_get s.connections.items i) ≡ None
-    → Does s (events.Feed i bytes) (Err refusals.Closed) s
+    → DoesEvent s (events.Feed i bytes) (Err refusals.Closed) s
 shut-events s i bytes none = (inl (may-not-take s i none), refl)
 
 -- the open connection of a number, which is kept under its key
@@ -307,7 +307,7 @@ module _ (s : State) (sound : IsSoundEngine s) (i key : ℕ) (at : slice_get s.c
     many_none : slab_len slab' ≡ slab_len s.slab
     many_none = written-len s.slab slab' key r.before r.after r.was r.is
 
-    pub untaken-events : Does s (events.Feed i bytes) (Err refusals.Closed) given
+    pub untaken-events : DoesEvent s (events.Feed i bytes) (Err refusals.Closed) given
     untaken-events = (
       inl (may-take s i (Open r.before) _ stood r.receives.0),
       unfed-world s given i (Open r.before) (Open r.after) stood set_none r.receives.1 r.receives.2 keyed_none many_none refl,
@@ -330,7 +330,7 @@ module _ (s : State) (sound : IsSoundEngine s) (i key : ℕ) (at : slice_get s.c
     many_some : slab_len slab' ≡ slab_len s.slab
     many_some = written-len s.slab slab' key r.before r.after r.was r.is
 
-    pub taken-events : Does s (events.Feed i bytes) (Ok (dones.Fed taken stop)) given
+    pub taken-events : DoesEvent s (events.Feed i bytes) (Ok (dones.Fed taken stop)) given
     taken-events = (
       may-take s i (Open r.before) true stands (open-takes s.offer (Open r.before) r.receives.before r.receives.was r.receives.takes),
       (

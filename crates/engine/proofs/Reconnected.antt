@@ -27,7 +27,7 @@ use Rattle.engine.specs.declared.event.Done.TheVariants.{Opened}
 use Rattle.engine.specs.declared.state.State.{State}
 use Rattle.engine.specs.declared.worker.Worker.{Worker}
 use Rattle.engine.specs.Seen.{connection_seen, held_in, setup_in, world}
-use Rattle.engine.specs.Words.{Does}
+use Rattle.engine.specs.Words.{DoesEvent}
 use Rattle.engine.specs.Sound.{IsSoundEngine, IsPlaced, IsReady, rooms_on}
 use Rattle.engine.proofs.Lists.{all-later}
 use Rattle.engine.proofs.Keyed.{opened, opened-keyed}
@@ -111,7 +111,7 @@ reserved-sound s new same items keyed as_many sound =
 -- what is answered, where fewer than 64 are open
 opened-events : (s new : State) (o : ConnectionState) (n : ConnectionNumber) → new ≡ record s { connections = new.connections; slab = new.slab }
     → held_in new ≡ held_in s ++ Open o ∷ [] → connection_of o ≡ new_connection → n.0 ≡ length (held_in s)
-    → IsSoundEngine s → slab_len s.slab < 64 → Does s events.Open (Ok (Opened n)) new
+    → IsSoundEngine s → slab_len s.slab < 64 → DoesEvent s events.Open (Ok (Opened n)) new
 opened-events s new o n same items is number sound few =
     let cs = held_in s in
     let seen : map connection_seen (held_in new) ≡ map connection_seen cs ++ new_connection ∷ [] =
@@ -165,6 +165,6 @@ module _ (s : State) (sound : IsSoundEngine s) (grown : Slab ConnectionState) (i
         (opened-keyed s.connections.items grown slab' keyed-grown key o vacant updates))
         (more ∙ ap (λ (n : ℕ). n + 1) many-grown) new nothing sound
 
-    pub opens-events : (n : ConnectionNumber) → n.0 ≡ length s.connections.items → slab_len s.slab < 64 → Does s events.Open (Ok (Opened n)) after
+    pub opens-events : (n : ConnectionNumber) → n.0 ≡ length s.connections.items → slab_len s.slab < 64 → DoesEvent s events.Open (Ok (Opened n)) after
     opens-events n number few =
         opened-events s after o n refl held-after new (number ∙ sym (length-map s.connections.items (held_at s.slab))) sound few

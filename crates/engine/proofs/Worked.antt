@@ -42,7 +42,7 @@ use Rattle.service.specs.declared.job.Job.{Job}
 use Rattle.service.specs.declared.job.JobReply.{JobReply}
 use Rattle.service.specs.declared.outcome.Outcome.{Outcome}
 use Rattle.service.specs.declared.outcome.Outcome.TheVariants.{Replied, Starved, Moved}
-use Rattle.service.specs.Running.{outcome_of, IsRunAt, MovesOn, AsksFor, HasRun}
+use Rattle.service.specs.Running.{outcome_of, IsRunAt, MovesOn, AsksFor, HasRunCall}
 use Rattle.rpc_msg.specs.Room.{IsRoomy, reply_room}
 use Rattle.rpc_msg.specs.Replies as replies
 use Rattle.engine_feed.specs.lemmas.Codec.{reply_record_is}
@@ -194,7 +194,7 @@ module _ {P C R : Type 0} (job : C → jobs.Job) (told : R → jobs.JobReply) (s
   -- and what it comes to is what the message's serving does
   pub has-worked : (call : Call) (caller : Caller) (moment : Moment) → r.message.asked ≡ Ask (call_of call) caller → r.moment ≡ moment
       → (o : Outcome) (c : FilerBooks P C R)
-      → HasWorked (λ layout node before (x : Outcome) after. HasRun call caller moment layout node before x after) b i o c
+      → HasWorked (λ layout node before (x : Outcome) after. HasRunCall call caller moment layout node before x after) b i o c
       → HasWorked (Serving r) b i (outcome_of o) c
   has-worked call caller moment asks on o c h = record {
     lent = h.lent;

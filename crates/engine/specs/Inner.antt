@@ -11,8 +11,8 @@ use Rattle.affinity.specs.Tree.{IsNode}
 use Rattle.depot_rule.specs.Shares.{too_many}
 use Rattle.desk.specs.laws.Books.{settled, stamps, IsIdle, IsTaken, HasHands, IsSettled}
 use Rattle.desk.specs.laws.Calls.{IsWorn}
-use Rattle.desk.specs.declared.refusal.Refusal as desks
-use Rattle.desk.specs.declared.refusal.Refusal.TheVariants as refused
+use Rattle.desk.specs.declared.refusal.BeginRefusal as desks
+use Rattle.desk.specs.declared.refusal.BeginRefusal.TheVariants as refused
 use Rattle.filer_state.specs.state.Jobs as jobs
 use Rattle.filer_state.specs.state.Jobs.{InnerCall, Fetch, Cull, batches_in, inner_node, inner_volume}
 use Rattle.filer_state.specs.state.Running.{IsRefusedIn}
@@ -73,7 +73,7 @@ told_as (jobs.Surveyed counts) = events.Surveyed counts
 told_as (jobs.Replied reply) = events.HasReply
 
 -- why an inner call is refused that a desk refused
-abbrev pub refusal_by : desks.Refusal → Refusal
+abbrev pub refusal_by : desks.BeginRefusal → Refusal
 refusal_by refused.Taken = Busy
 refusal_by refused.Worn = Worn
 

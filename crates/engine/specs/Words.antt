@@ -10,8 +10,8 @@ use Rattle.engine.specs.Seen.{setup_in, world, answer_of}
 use Rattle.engine.specs.Sound.{IsSoundEngine}
 
 -- the event is the model's: it is refused and changes nothing, or answers and does what the model says
-abbrev pub Does : State → events.Event → Result Done Refusal → State → Type 0
-Does old event answer new = Events (setup_in old) (world old) event (answer_of answer) (world new)
+abbrev pub DoesEvent : State → events.Event → Result Done Refusal → State → Type 0
+DoesEvent old event answer new = Events (setup_in old) (world old) event (answer_of answer) (world new)
 
 -- what is fixed for a run stays
 abbrev pub HasItsSetup : State → State → Type 0

@@ -3,13 +3,13 @@
 ghost use Rattle.nfs_model.specs.Events.Refusals as event;
 ghost use Rattle.nfs_values.specs.Moment.{moment_of};
 ghost use Rattle.engine.specs.Sound.{IsSoundEngine};
-ghost use Rattle.engine.specs.Words.{Does, HasItsSetup};
+ghost use Rattle.engine.specs.Words.{DoesEvent, HasItsSetup};
 
 use crate::event::{Done, Refusal};
 use crate::lending::lend;
 use crate::state::{SECOND, State};
 use crate::worker::{Running, WorkerRun, is_idle, set_run};
-use desk::Refusal as Refused;
+use desk::BeginRefusal as Refused;
 use nfs_values::Moment;
 
 /// Begins the message at a place of the list: its worker is lent what it runs on.
@@ -20,7 +20,8 @@ pub(crate) fn begin(
     moment: Moment,
 ) -> Result<Done, Refusal>
     requires { IsSoundEngine state.old }
-    ensures events { Does state.old (event.Begin worker place (moment_of moment)) result state.new }
+    ensures events { DoesEvent state.old (event.Begin worker place (moment_of moment)) result
+        state.new }
     ensures setup { HasItsSetup state.old state.new }
     ensures sound { IsSoundEngine state.new }
 {

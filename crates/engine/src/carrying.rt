@@ -5,7 +5,7 @@ ghost use Rattle.nfs_model.specs.Events.Refusals as event;
 ghost use Rattle.engine_feed.specs.Seen.{layout_in};
 ghost use Rattle.engine.specs.Seen.{worker_seen};
 ghost use Rattle.engine.specs.Sound.{IsSoundEngine};
-ghost use Rattle.engine.specs.Words.{Does, HasItsSetup};
+ghost use Rattle.engine.specs.Words.{DoesEvent, HasItsSetup};
 
 use crate::event::{Done, Refusal};
 use crate::inner::{Asked, count_free, tend};
@@ -38,7 +38,7 @@ pub(crate) fn fetch(
     range: u32,
 ) -> Result<Done, Refusal>
     requires { IsSoundEngine state.old }
-    ensures events { Does state.old (event.Fetch worker volume.0 range) result state.new }
+    ensures events { DoesEvent state.old (event.Fetch worker volume.0 range) result state.new }
     ensures setup { HasItsSetup state.old state.new }
     ensures sound { IsSoundEngine state.new }
 {
@@ -57,7 +57,7 @@ pub(crate) fn fetch(
 /// Blocks that files have left, up to 64 of one range, come into the empty hand of an idle worker.
 pub(crate) fn cull(state: &mut State, worker: usize, volume: VolumeNumber) -> Result<Done, Refusal>
     requires { IsSoundEngine state.old }
-    ensures events { Does state.old (event.Cull worker volume.0) result state.new }
+    ensures events { DoesEvent state.old (event.Cull worker volume.0) result state.new }
     ensures setup { HasItsSetup state.old state.new }
     ensures sound { IsSoundEngine state.new }
 {
@@ -74,7 +74,7 @@ pub(crate) fn cull(state: &mut State, worker: usize, volume: VolumeNumber) -> Re
 /// ones are free again in their range.
 pub(crate) fn put_down(state: &mut State, worker: usize) -> Result<Done, Refusal>
     requires { IsSoundEngine state.old }
-    ensures events { Does state.old (event.PutDown worker) result state.new }
+    ensures events { DoesEvent state.old (event.PutDown worker) result state.new }
     ensures setup { HasItsSetup state.old state.new }
     ensures sound { IsSoundEngine state.new }
 {
@@ -91,7 +91,7 @@ pub(crate) fn survey(
     volume: VolumeNumber,
 ) -> Result<Done, Refusal>
     requires { IsSoundEngine state.old }
-    ensures events { Does state.old (event.Survey worker volume.0) result state.new }
+    ensures events { DoesEvent state.old (event.Survey worker volume.0) result state.new }
     ensures setup { HasItsSetup state.old state.new }
     ensures sound { IsSoundEngine state.new }
 {

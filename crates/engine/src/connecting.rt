@@ -6,7 +6,7 @@ ghost use Rattle.nfs_model.specs.Events.Refusals as event;
 ghost use Rattle.engine.specs.Connections.{key_at};
 ghost use Rattle.engine.specs.declared.connection.Connection.TheVariants as places;
 ghost use Rattle.engine.specs.Sound.{IsSoundEngine};
-ghost use Rattle.engine.specs.Words.{Does, HasItsSetup};
+ghost use Rattle.engine.specs.Words.{DoesEvent, HasItsSetup};
 
 use crate::connection::{ClosedConnection, Connection};
 use crate::event::{Done, Refusal};
@@ -37,7 +37,7 @@ fn set_closed(connections: &mut Vec<Connection>, number: usize, closed: ClosedCo
 /// Opens a connection, where fewer than 64 are open.
 pub(crate) fn open_connection(state: &mut State) -> Result<Done, Refusal>
     requires { IsSoundEngine state.old }
-    ensures events { Does state.old event.Open result state.new }
+    ensures events { DoesEvent state.old event.Open result state.new }
     ensures setup { HasItsSetup state.old state.new }
     ensures sound { IsSoundEngine state.new }
 {
@@ -59,7 +59,7 @@ pub(crate) fn open_connection(state: &mut State) -> Result<Done, Refusal>
 /// Closes an open connection: its calls still run, and nothing more is written to it.
 pub(crate) fn close_connection(state: &mut State, connection: usize) -> Result<Done, Refusal>
     requires { IsSoundEngine state.old }
-    ensures events { Does state.old (event.Close connection) result state.new }
+    ensures events { DoesEvent state.old (event.Close connection) result state.new }
     ensures setup { HasItsSetup state.old state.new }
     ensures sound { IsSoundEngine state.new }
 {

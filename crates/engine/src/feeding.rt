@@ -4,7 +4,7 @@ ghost use Rattle.nfs_model.specs.Events.Refusals as event;
 ghost use Rattle.slab.specs.Slab.{ContainsKey};
 ghost use Rattle.engine.specs.Receiving.{ReceivesUnder};
 ghost use Rattle.engine.specs.Sound.{IsSoundEngine};
-ghost use Rattle.engine.specs.Words.{Does, HasItsSetup};
+ghost use Rattle.engine.specs.Words.{DoesEvent, HasItsSetup};
 
 use crate::connecting::key_of;
 use crate::event::{Done, Refusal};
@@ -39,7 +39,7 @@ fn receive(
 /// Takes bytes on a connection that is open and at no fault.
 pub(crate) fn feed(state: &mut State, connection: usize, bytes: &[u8]) -> Result<Done, Refusal>
     requires { IsSoundEngine state.old }
-    ensures events { Does state.old (event.Feed connection bytes.now) result state.new }
+    ensures events { DoesEvent state.old (event.Feed connection bytes.now) result state.new }
     ensures setup { HasItsSetup state.old state.new }
     ensures sound { IsSoundEngine state.new }
 {

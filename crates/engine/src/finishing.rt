@@ -14,7 +14,7 @@ ghost use Rattle.engine.specs.Connections.{Open, held_by, AreKeyed};
 ghost use Rattle.engine.specs.Ending.{served_made, job_made, answer_made};
 ghost use Rattle.engine.specs.Ending.{EndsAmong};
 ghost use Rattle.engine.specs.Sound.{IsSoundEngine};
-ghost use Rattle.engine.specs.Words.{Does, HasItsSetup};
+ghost use Rattle.engine.specs.Words.{DoesEvent, HasItsSetup};
 
 use crate::connecting::key_of;
 use crate::connection::Connection;
@@ -134,7 +134,7 @@ fn end_in(
 /// Finishes the message that a worker has worked.
 pub(crate) fn finish(state: &mut State, worker: usize) -> Result<Done, Refusal>
     requires { IsSoundEngine state.old }
-    ensures events { Does state.old (event.Finish worker) result state.new }
+    ensures events { DoesEvent state.old (event.Finish worker) result state.new }
     ensures setup { HasItsSetup state.old state.new }
     ensures sound { IsSoundEngine state.new }
 {

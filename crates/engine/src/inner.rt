@@ -26,7 +26,7 @@ use crate::state::State;
 use crate::worker::{set_hand, take_hand};
 use affinity::{Affinity, Layout};
 use depot::Entered;
-use desk::{Desk, ParcelKinds, Refusal as Refused, WorkOn};
+use desk::{BeginRefusal as Refused, Desk, ParcelKinds, WorkOn};
 use filer_state::Files;
 use nfs_laws::laws::batches_are_of_one_range;
 use nfs_values::VolumeNumber;

@@ -5,12 +5,12 @@ ghost use Rattle.affinity.specs.Affinity.{call_node};
 ghost use Rattle.affinity.specs.Tree.{IsNode};
 ghost use Rattle.desk.specs.laws.Books.{IsIdle};
 ghost use Rattle.desk.specs.laws.Calls.{HasBegun, MayFinish, HasFinished, MayPutBack, HasPutBack};
-ghost use Rattle.desk.specs.Refusal.{IsRefused};
+ghost use Rattle.desk.specs.BeginRefusal.{IsRefused};
 ghost use Rattle.desk.specs.Words.{books, machine_in, IsKept};
 
 use affinity::CallNode;
 use depot::Entered;
-use desk::{Desk, ParcelKinds, Refusal};
+use desk::{BeginRefusal, Desk, ParcelKinds};
 use service::{Job, JobReply, Service};
 
 /// Lends the parcels under a node to an idle worker.
@@ -18,7 +18,7 @@ pub(crate) fn lend(
     desk: &mut Desk<Service, ParcelKinds>,
     worker: usize,
     home: CallNode,
-) -> Result<(), Refusal>
+) -> Result<(), BeginRefusal>
     requires kept { IsKept desk.old }
     requires node { IsNode (books desk.old).layout (call_node home) }
     requires idle { IsIdle (books desk.old) worker }

@@ -9,7 +9,7 @@ ghost use Rattle.service.specs.Running.{AsksFor};
 ghost use Rattle.engine.specs.counts.Counts.{AreSized, IsCounted, world_counts};
 ghost use Rattle.engine.specs.Seen.{told_of, world};
 ghost use Rattle.engine.specs.Working.{run_of};
-ghost use Rattle.engine.specs.Words.{Does, HasItsSetup, IsWhole};
+ghost use Rattle.engine.specs.Words.{DoesEvent, HasItsSetup, IsWhole};
 ghost use Rattle.engine.specs.Sound.{IsSoundEngine};
 
 use crate::counting::recount;
@@ -79,7 +79,7 @@ pub(crate) fn work(
 ) -> Result<Done, Refusal>
     requires whole { IsWhole state.old }
     requires counted { counts.old.items ≡ world_counts (world state.old) }
-    ensures events { Does state.old (event.Work worker) result state.new }
+    ensures events { DoesEvent state.old (event.Work worker) result state.new }
     ensures setup { HasItsSetup state.old state.new }
     ensures sound { IsSoundEngine state.new }
     ensures counted { counts.new.items ≡ world_counts (world state.new) }

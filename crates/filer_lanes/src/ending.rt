@@ -10,7 +10,7 @@ ghost use Rattle.filer_lanes.specs.Rooms.{lanes_for};
 ghost use Rattle.filer_lanes.specs.ThreadedHeadline.{ThreadedHeadline};
 
 use crate::gathering::gather_lanes;
-use crate::room::Room;
+use crate::room::LaneBuffers;
 use connections::Device;
 use granted_calls::Filer;
 use lanes::Lane;
@@ -48,7 +48,7 @@ pub fn end<D: Device + Drop, R: Wait + Drop>(
     rt: &R,
     filer: Arc<Filer>,
     lanes: Vec<Lane<D, R>>,
-    room: Room,
+    room: LaneBuffers,
 ) -> FilerEnd
     requires lanes { AreLanesOf (arc_value filer) lanes.items }
     requires room { vec_len lanes ≤ lanes_for room }

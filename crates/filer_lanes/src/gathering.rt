@@ -13,7 +13,7 @@ ghost use Rattle.filer_lanes.specs.Remains.{calls_in, AreRemainsIn};
 ghost use Rattle.granted_calls.specs.Balance.{FilerEntry, Weight};
 
 use crate::remains::Remains;
-use crate::room::Room;
+use crate::room::LaneBuffers;
 use connections::Device;
 use granted_calls::Filer;
 use lanes::{Lane, LaneParts};
@@ -26,7 +26,7 @@ fn begin<D: Device + Drop, R: Wait + Drop>(
     filer: &Filer,
     rt: &R,
     lane: Lane<D, R>,
-    room: Room,
+    room: LaneBuffers,
 ) -> Remains
     requires of { IsLaneOf filer.now lane }
     requires some { 0 < room.lanes }
@@ -42,7 +42,7 @@ fn begin<D: Device + Drop, R: Wait + Drop>(
         × (room.lanes ≤ vec_capacity result.kept)
         × (1024 * room.lanes ≤ vec_capacity result.waiting) }
 {
-    let Room {
+    let LaneBuffers {
         lanes: _,
         mut hands,
         mut kept,
@@ -165,7 +165,7 @@ pub(crate) fn gather_lanes<D: Device + Drop, R: Wait + Drop>(
     filer: &Filer,
     rt: &R,
     mut lanes: Vec<Lane<D, R>>,
-    room: Room,
+    room: LaneBuffers,
 ) -> Left
     requires lanes { AreLanesOf filer.now lanes.items }
     requires room { vec_len lanes ≤ room.lanes }

@@ -9,4 +9,4 @@ mod room;
 
 pub use ending::{FilerEnd, end};
 pub use opening::open_lanes;
-pub use room::Room;
+pub use room::LaneBuffers;

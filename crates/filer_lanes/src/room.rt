@@ -10,7 +10,7 @@ use turns::BatchInHand;
 /// Room for all that this many lanes can leave: a batch and a message of each, and the messages
 /// that wait. Who has it puts the lanes together without memory.
 #[derive(Drop)]
-pub struct Room {
+pub struct LaneBuffers {
     pub(crate) lanes: usize,
     pub(crate) hands: Vec<BatchInHand>,
     pub(crate) kept: Vec<Envelope>,
@@ -20,15 +20,15 @@ pub struct Room {
         × (1024 * lanes ≤ vec_capacity waiting) },
 }
 
-impl Room {
+impl LaneBuffers {
     ghost use Rattle.filer_lanes.specs.Rooms.{lanes_for};
 
     /// Room for 1 to 64 lanes.
-    pub fn new(alloc: Global, lanes: usize) -> Result<Room, AllocError>
+    pub fn new(alloc: Global, lanes: usize) -> Result<LaneBuffers, AllocError>
         requires { lanes ≤ 64 }
         ensures { IfOk result (λ room. lanes_for room ≡ lanes) }
     {
-        Ok(Room {
+        Ok(LaneBuffers {
             lanes,
             hands: Vec::with_capacity(alloc, lanes)?,
             kept: Vec::with_capacity(alloc, lanes)?,

@@ -14,8 +14,8 @@ use Rattle.affinity.specs.Numbers.{number_of, parents}
 use Rattle.parcels.specs.Exact.{kind_in}
 use Rattle.depot_rule.specs.History.{AreHands, entries_of}
 use Rattle.depot.specs.Grants.{entry_of, IsEnded, IsRefused}
-use Rattle.depot.specs.declared.grants.Refusal.{Refusal}
-use Rattle.depot.specs.declared.grants.Refusal.TheVariants as refusals
+use Rattle.depot.specs.declared.grants.GrantRefusal.{GrantRefusal}
+use Rattle.depot.specs.declared.grants.GrantRefusal.TheVariants as refusals
 use Rattle.desk.specs.laws.Backing.{CanPutBack, IsGranted}
 use Rattle.outboxes.specs.Boxes.{Addressed, addressed}
 use Rattle.outboxes.specs.Messages as replies
@@ -330,7 +330,7 @@ module _ (layout : Layout) (verifier : List ℕ) (s : Standing) (m : Message) (v
 
   -- it was refused
   pub refused-served : {S : Type 0} (took : S → List Addressed → S → Type 0) (took_none : (x : S) → took x [] x) (moment : Moment) (sink : S)
-      (w : FilerView) (refusal : Refusal) → IsRefused layout v (call_affinity m.affinity) refusal w
+      (w : FilerView) (refusal : GrantRefusal) → IsRefused layout v (call_affinity m.affinity) refusal w
       → HasServedOn took layout s moment sink (chained_by refusal) sink (left_standing w pass (Some m))
   refused-served took took_none moment sink w (refusals.Busy at word) refused = record {
     answers = [];

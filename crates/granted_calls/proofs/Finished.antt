@@ -21,8 +21,8 @@ use Rattle.depot_rule.specs.Shares.{Has}
 use Rattle.depot_rule.specs.History.{after, listed, entries_of, SoundHistory}
 use Rattle.depot_rule.specs.Plays.{HasAdded}
 use Rattle.depot.specs.Grants.{entry_of, HasWith, IsBegun, IsAfter, IsStep, IsEnded, IsFinished, IsRefused}
-use Rattle.depot.specs.declared.grants.Refusal.{Refusal}
-use Rattle.depot.specs.declared.grants.Refusal.TheVariants as refusals
+use Rattle.depot.specs.declared.grants.GrantRefusal.{GrantRefusal}
+use Rattle.depot.specs.declared.grants.GrantRefusal.TheVariants as refusals
 use Rattle.depot.specs.lemmas.Seats.{begun-with, begun-entries, begun-hand, ended-entries, ended-none, finished-entries, finished-none}
 use Rattle.desk.specs.laws.Backing.{CanFinish, CanPutBack}
 use Rattle.filer_state.specs.state.Jobs as jobs
@@ -33,7 +33,7 @@ use Rattle.filer_state.specs.declared.files.Files.{Files}
 use Rattle.outboxes.specs.Boxes.{Addressed, addressed}
 use Rattle.outboxes.specs.Messages as replies
 use Rattle.outboxes.specs.Messages.{record_of}
-use Rattle.service.specs.Running.{HasRun}
+use Rattle.service.specs.Running.{HasRunCall}
 use Rattle.service.specs.declared.job.JobReply.TheVariants.{Replied}
 use Rattle.service.specs.declared.outcome.Outcome.{Outcome}
 use Rattle.service.specs.declared.outcome.Outcome.TheVariants as outcomes
@@ -67,8 +67,8 @@ module _ (layout : Layout) (lawful : fault_of layout ≡ None) (m : Message) (pl
   here : l.affinity ≡ node
   here = r.done.affinity ∙ r.granted.affinity
 
-  told : HasRun m.call (caller_of m.caller) (moment_of moment) layout node before outcome l.parcels
-  told = subst (λ a. HasRun m.call (caller_of m.caller) (moment_of moment) layout a before outcome l.parcels) r.granted.affinity r.done.did
+  told : HasRunCall m.call (caller_of m.caller) (moment_of moment) layout node before outcome l.parcels
+  told = subst (λ a. HasRunCall m.call (caller_of m.caller) (moment_of moment) layout a before outcome l.parcels) r.granted.affinity r.done.did
 
   begun : IsBegun v (number_of layout node) before w
   begun = subst (λ a. IsBegun v (number_of layout a) before w) r.granted.affinity r.granted.begun
@@ -105,12 +105,12 @@ module _ (layout : Layout) (lawful : fault_of layout ≡ None) (m : Message) (pl
       → CanFinish kind_in filer_behaviour layout w l (job_of_message m moment false) (Replied reply)
   may-finish reply is =
       may-enter reply false
-      (subst (λ (o : Outcome). HasRun m.call (caller_of m.caller) (moment_of moment) layout node before o l.parcels) is told).0
+      (subst (λ (o : Outcome). HasRunCall m.call (caller_of m.caller) (moment_of moment) layout node before o l.parcels) is told).0
 
   pub may-starve : (reply : Reply) → reply_of reply ≡ SystemError → outcome ≡ outcomes.Starved
       → CanFinish kind_in filer_behaviour layout w l (job_of_message m moment true) (Replied reply)
   may-starve reply says is =
-      let ran = subst (λ (o : Outcome). HasRun m.call (caller_of m.caller) (moment_of moment) layout node before o l.parcels) is told in
+      let ran = subst (λ (o : Outcome). HasRunCall m.call (caller_of m.caller) (moment_of moment) layout node before o l.parcels) is told in
       may-enter reply true
       (subst (λ (x : types.Reply). Enters layout node (asked_by m) (moment_of moment) true before (jobs.Replied x) l.parcels) (sym says) ran.0.0)
 
@@ -160,7 +160,7 @@ module _ (layout : Layout) (lawful : fault_of layout ≡ None) (m : Message) (pl
     pub fits : (reply : Reply) → outcome ≡ outcomes.Replied reply → (form : HandleForm)
         → length (record_of (replies.message m.origin.xid (reply_told form (reply_of reply)))) ≤ m.room
     fits reply is form =
-        let ran = subst (λ (o : Outcome). HasRun m.call (caller_of m.caller) (moment_of moment) layout node before o l.parcels) is told in
+        let ran = subst (λ (o : Outcome). HasRunCall m.call (caller_of m.caller) (moment_of moment) layout node before o l.parcels) is told in
         let history : SoundHistory filer_behaviour (parents layout) v.first v.seen v.mine left.0 =
         subst (λ ps. SoundHistory filer_behaviour ps v.first v.seen v.mine left.0) of_v left.1 in
         let under : (k : ℕ) → Covers (parents layout) (number_of layout node) k → after (parents layout) (listed v.first) left.0 k ≡ before k =
@@ -181,8 +181,8 @@ module _ (layout : Layout) (lawful : fault_of layout ≡ None) (m : Message) (pl
   -- ---- it moves
 
   module _ (to : CallNode) (is : outcome ≡ outcomes.Moved to) where
-    moved : HasRun m.call (caller_of m.caller) (moment_of moment) layout node before (outcomes.Moved to) l.parcels
-    moved = subst (λ (o : Outcome). HasRun m.call (caller_of m.caller) (moment_of moment) layout node before o l.parcels) is told
+    moved : HasRunCall m.call (caller_of m.caller) (moment_of moment) layout node before (outcomes.Moved to) l.parcels
+    moved = subst (λ (o : Outcome). HasRunCall m.call (caller_of m.caller) (moment_of moment) layout node before o l.parcels) is told
 
     pub may-go-back : CanPutBack layout w l
     may-go-back =
@@ -225,11 +225,11 @@ module _ (layout : Layout) (lawful : fault_of layout ≡ None) (m : Message) (pl
 -- ---- it is refused
 
 module _ (layout : Layout) (v w : FilerView) (a : codes.Affinity) where
-  pub refused-entries : (refusal : Refusal) → IsRefused layout v a refusal w → entries_of w ≡ entries_of v
+  pub refused-entries : (refusal : GrantRefusal) → IsRefused layout v a refusal w → entries_of w ≡ entries_of v
   refused-entries (refusals.Busy at word) refused = ap (λ (x : FilerView). entries_of x) refused.1.1
   refused-entries refusals.Worn refused = ap (λ (x : FilerView). entries_of x) refused.1
 
-  pub refused-ready : (verifier : List ℕ) (refusal : Refusal) → IsRefused layout v a refusal w → IsReady layout verifier v → IsReady layout verifier w
+  pub refused-ready : (verifier : List ℕ) (refusal : GrantRefusal) → IsRefused layout v a refusal w → IsReady layout verifier v → IsReady layout verifier w
   refused-ready verifier (refusals.Busy at word) refused ready = record {
     opened = subst (λ (x : FilerView). HasOpened layout verifier x) (sym refused.1.1) ready.opened;
     none_open = λ b g has. ready.none_open b g (subst (λ (x : FilerView). Has x b g) refused.1.1 has);

@@ -14,7 +14,7 @@ use Rattle.nfs_values.specs.declared.reply.Reply.TheVariants.{Refused}
 use Rattle.affinity.specs.declared.affinity.CallNode.{CallNode}
 use Rattle.service.specs.declared.outcome.Outcome.{Outcome}
 use Rattle.service.specs.declared.outcome.Outcome.TheVariants as outcomes
-use Rattle.service.specs.Running.{HasRun}
+use Rattle.service.specs.Running.{HasRunCall}
 use Rattle.granted_calls.specs.Messages.{Message}
 use Rattle.granted_calls.specs.declared.granted.Ended.{Ended}
 use Rattle.granted_calls.specs.declared.granted.Ended.TheVariants as ends
@@ -23,12 +23,12 @@ use Rattle.granted_calls.specs.Runs.{FilerLent, HasRunFrom, HasTold}
 -- the call and the caller are the message's, and the layout is the filer's
 pub ran-from : (layout x : Layout) → x ≡ layout → (m : Message) (call : Call) (caller : Caller) → call ≡ m.call → caller ≡ m.caller
     → (moment : Moment) (outcome : Outcome) (before after : Layout → FilerLent)
-    → IsDone (HasRun call (caller_of caller) (moment_of moment)) x (before x) outcome (after x) → IsWhole kind_in x (after x)
+    → IsDone (HasRunCall call (caller_of caller) (moment_of moment)) x (before x) outcome (after x) → IsWhole kind_in x (after x)
     → HasRunFrom layout m moment (before layout) outcome (after layout)
 ran-from layout x same m call caller is whom moment outcome before after done whole = record {
-  done = subst (λ (y : Layout). IsDone (HasRun m.call (caller_of m.caller) (moment_of moment)) y (before y) outcome (after y)) same
-      (subst (λ (k : Caller). IsDone (HasRun m.call (caller_of k) (moment_of moment)) x (before x) outcome (after x)) whom
-      (subst (λ (k : Call). IsDone (HasRun k (caller_of caller) (moment_of moment)) x (before x) outcome (after x)) is done));
+  done = subst (λ (y : Layout). IsDone (HasRunCall m.call (caller_of m.caller) (moment_of moment)) y (before y) outcome (after y)) same
+      (subst (λ (k : Caller). IsDone (HasRunCall m.call (caller_of k) (moment_of moment)) x (before x) outcome (after x)) whom
+      (subst (λ (k : Call). IsDone (HasRunCall k (caller_of caller) (moment_of moment)) x (before x) outcome (after x)) is done));
   whole = subst (λ (y : Layout). IsWhole kind_in y (after y)) same whole;
 }
 

@@ -5,8 +5,8 @@ use Rattle.nfs_values.specs.declared.moment.Moment.{Moment}
 use Rattle.affinity.specs.Affinity.{call_affinity}
 use Rattle.depot_rule.specs.History.{entries_of}
 use Rattle.depot.specs.Grants.{IsRefused}
-use Rattle.depot.specs.declared.grants.Refusal.{Refusal}
-use Rattle.depot.specs.declared.grants.Refusal.TheVariants as refusals
+use Rattle.depot.specs.declared.grants.GrantRefusal.{GrantRefusal}
+use Rattle.depot.specs.declared.grants.GrantRefusal.TheVariants as refusals
 use Rattle.outboxes.specs.Boxes.{Addressed, Boxes, put}
 use Rattle.granted_calls.specs.Messages.{Message}
 use Rattle.granted_calls.specs.declared.turned.Turn.TheVariants as turns
@@ -114,7 +114,7 @@ pub record HasServedOn {S : Type 0} (took : S → List Addressed → S → Type 
   pub suits : Suits answers sink chained sink'
 
 -- what a refusal of the depot answers
-abbrev pub chained_by : Refusal → Chained
+abbrev pub chained_by : GrantRefusal → Chained
 chained_by (refusals.Busy at word) = chains.Busy at word
 chained_by refusals.Worn = chains.Worn
 

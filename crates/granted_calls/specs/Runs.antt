@@ -16,7 +16,7 @@ use Rattle.filer_state.specs.state.Parcels.{FilerParcel}
 use Rattle.filer_state.specs.declared.files.Files.{Files}
 use Rattle.service.specs.declared.outcome.Outcome.{Outcome}
 use Rattle.service.specs.declared.outcome.Outcome.TheVariants as outcomes
-use Rattle.service.specs.Running.{HasRun}
+use Rattle.service.specs.Running.{HasRunCall}
 use Rattle.granted_calls.specs.declared.granted.Ended.{Ended}
 use Rattle.granted_calls.specs.declared.granted.Ended.TheVariants as ends
 use Rattle.granted_calls.specs.Messages.{Message}
@@ -30,7 +30,7 @@ FilerLent = Lent (FilerParcel Files)
 pub record HasRunOn (layout : Layout) (v : FilerView) (m : Message) (moment : Moment) (outcome : Outcome) (l : FilerLent) (w : FilerView) : Type 0 where
   pub before : FilerLent
   pub granted : IsGranted kind_in filer_behaviour layout v (call_node m.affinity) before w
-  pub done : IsDone (HasRun m.call (caller_of m.caller) (moment_of moment)) layout before outcome l
+  pub done : IsDone (HasRunCall m.call (caller_of m.caller) (moment_of moment)) layout before outcome l
   pub whole : IsWhole kind_in layout l
 
 -- what is lent are the parcels of what a message tries, as a depot of the layout granted them
@@ -42,7 +42,7 @@ pub record IsLentFor (layout : Layout) (m : Message) (l : FilerLent) : Type 0 wh
 
 -- the run of a message's call on what is lent came to this, and left it so
 pub record HasRunFrom (layout : Layout) (m : Message) (moment : Moment) (l : FilerLent) (outcome : Outcome) (l' : FilerLent) : Type 0 where
-  pub done : IsDone (HasRun m.call (caller_of m.caller) (moment_of moment)) layout l outcome l'
+  pub done : IsDone (HasRunCall m.call (caller_of m.caller) (moment_of moment)) layout l outcome l'
   pub whole : IsWhole kind_in layout l'
 
 -- ---- what is told of a run

@@ -14,7 +14,7 @@ use Rattle.affinity.specs.Numbers.{number_of}
 use Rattle.depot_rule.specs.History.{Behaviour, behaviour, entries_of}
 use Rattle.depot_rule.specs.Plays.{HasAdded}
 use Rattle.depot.specs.Grants.{IsBegun, IsAfter, IsEnded, IsRefused}
-use Rattle.depot.specs.declared.grants.Refusal.TheVariants as refusals
+use Rattle.depot.specs.declared.grants.GrantRefusal.TheVariants as refusals
 use Rattle.filer_state.specs.state.Jobs as jobs
 use Rattle.filer_state.specs.state.Parcels.{FilerParcel}
 use Rattle.filer_state.specs.state.Running.{MovesTo}

@@ -22,7 +22,7 @@ use crate::shared_waiting::{Pass, SharedWaiting};
 use crate::telling::{forget, starved};
 use crate::turned::Gate;
 use affinity::{CallNode, Layout};
-use depot::{Refusal, Seat};
+use depot::{GrantRefusal, Seat};
 use desk::{NodeGrant, ParcelKinds, TaskNode};
 use filer_state::Files;
 use nfs_values::{Moment, Reply};
@@ -38,12 +38,12 @@ pub struct ServedAll {
 }
 
 /// What is told where the depot refused.
-fn refused(refusal: Refusal) -> Chained
+fn refused(refusal: GrantRefusal) -> Chained
     ensures { result ≡ chained_by refusal }
 {
     match refusal {
-        Refusal::Busy { node, word } => Chained::Busy { node, word },
-        Refusal::Worn => Chained::Worn,
+        GrantRefusal::Busy { node, word } => Chained::Busy { node, word },
+        GrantRefusal::Worn => Chained::Worn,
     }
 }
 

@@ -18,7 +18,7 @@ use crate::shared::Filer;
 use crate::telling::{tell, tell_starved};
 use crate::turned::{Gate, Place, Stage};
 use affinity::CallNode;
-use depot::{Refusal, Seat};
+use depot::{GrantRefusal, Seat};
 use desk::{NodeGrant, ParcelKinds, TaskNode, begin_node, work_node};
 use filer_state::Files;
 use nfs_values::{Moment, Reply};
@@ -106,7 +106,7 @@ pub(crate) fn run<N: TaskNode<Parcel<Files>, ParcelKinds>, G: Gate>(
     moment: Moment,
     gate: &G,
     told: &mut Reply,
-) -> Result<Ran<NodeGrant<Parcel<Files>, N>, Ended>, Refusal>
+) -> Result<Ran<NodeGrant<Parcel<Files>, N>, Ended>, GrantRefusal>
     requires seat { IsSeatHere filer.now.depot seat.old }
     requires placed { IsPlaced (layout_in filer.now) envelope.now }
     requires kind { IsNodeOf (layout_in filer.now) N.KIND
@@ -137,7 +137,7 @@ pub(crate) fn begin_on<N: TaskNode<Parcel<Files>, ParcelKinds>, G: Gate>(
     seat: &mut Seat<Service>,
     envelope: &Envelope,
     gate: &G,
-) -> Result<NodeGrant<Parcel<Files>, N>, Refusal>
+) -> Result<NodeGrant<Parcel<Files>, N>, GrantRefusal>
     requires seat { IsSeatHere filer.now.depot seat.old }
     requires kind { IsNodeOf (layout_in filer.now) N.KIND
         (call_affinity envelope.now.affinity) }

@@ -3,7 +3,7 @@
 use crate::answer::Answer;
 use crate::envelope::Envelope;
 use affinity::Affinity;
-use depot::Refusal;
+use depot::GrantRefusal;
 use nfs_values::{ConnectionNumber, Reply};
 use service::Ahead;
 use statistics::Tally;
@@ -28,7 +28,7 @@ pub enum Served {
     /// It has to run elsewhere, as the message says.
     Moved(Envelope),
     /// It didn't begin.
-    Refused(Envelope, Refusal),
+    Refused(Envelope, GrantRefusal),
 }
 
 /// How far a call came.

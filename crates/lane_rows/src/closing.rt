@@ -8,7 +8,7 @@ use crate::laned::{ask, close_after};
 use crate::opening::{MemoryLane, open_both};
 use crate::texts::{GETATTR, GETATTR_REPLY, NULL, NULL_REPLY};
 use connections::Sent;
-use filer_lanes::{FilerEnd, Room, end};
+use filer_lanes::{FilerEnd, LaneBuffers, end};
 use granted_calls::{Unwatched, Wanted};
 use nfs_values::Moment;
 use std::process::Abort;
@@ -69,7 +69,7 @@ fn close_both<R: Abort + AllocGlobal + Wait + Copy + Drop>(rt: R, takes: usize) 
     let (filer, lanes) = open_both(rt);
     let served = Vec::with_capacity(rt.alloc(), 2).expect(&rt, "no memory");
     let lanes = serve_each(&rt, lanes, served, takes);
-    let room = Room::new(rt.alloc(), 2).expect(&rt, "no memory");
+    let room = LaneBuffers::new(rt.alloc(), 2).expect(&rt, "no memory");
     let end = end(&rt, filer, lanes, room);
     assert!(&rt; end.unfinished() == 2);
     assert!(&rt; matches!(end, FilerEnd::Closed(_)));
@@ -80,7 +80,7 @@ fn close_both<R: Abort + AllocGlobal + Wait + Copy + Drop>(rt: R, takes: usize) 
 fn hold_both<R: Abort + AllocGlobal + Wait + Copy + Drop>(rt: R) {
     let (filer, lanes) = open_both(rt);
     let other = Arc::try_clone(&filer).expect(&rt, "no memory");
-    let room = Room::new(rt.alloc(), 2).expect(&rt, "no memory");
+    let room = LaneBuffers::new(rt.alloc(), 2).expect(&rt, "no memory");
     let end = end(&rt, filer, lanes, room);
     assert!(&rt; end.unfinished() == 0);
     assert!(&rt; matches!(end, FilerEnd::Held(_)));

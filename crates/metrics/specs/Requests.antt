@@ -3,7 +3,7 @@ use Rattle.std.specs.Prelude.{ℕ, List, if◌then◌else◌, codes, bytes_eq}
 use Rattle.httparse.specs.Grammar.{RequestHead}
 use Rattle.metrics.specs.declared.request.Asked.{Asked}
 use Rattle.metrics.specs.declared.request.Asked.TheVariants.{Metrics, Refused}
-use Rattle.metrics.specs.declared.request.Refusal.TheVariants.{NotFound, MethodNotAllowed}
+use Rattle.metrics.specs.declared.request.RequestRefusal.TheVariants.{NotFound, MethodNotAllowed}
 
 -- the metrics stand at one target (RFC 9110 section 15.5.5), and are told by GET alone (section 15.5.6)
 abbrev pub asked_by : List ℕ → List ℕ → Asked

@@ -10,6 +10,6 @@ mod seconds;
 mod telling;
 
 pub use measured::{Measured, VolumeUse};
-pub use request::{Asked, MOST_REQUEST, Refusal, read_request};
+pub use request::{Asked, MOST_REQUEST, RequestRefusal, read_request};
 pub use response::{metrics_response, refusal_response};
 pub use telling::exposition;

@@ -21,7 +21,7 @@ const MOST_FIELDS: usize = 64;
 
 /// Why a request gets no metrics.
 #[derive(Clone, Copy, PartialEq, Eq, Debug)]
-pub enum Refusal {
+pub enum RequestRefusal {
     /// It is no request of HTTP/1.0 or HTTP/1.1.
     Malformed,
     /// It asks for something else.
@@ -38,7 +38,7 @@ pub enum Asked {
     /// More of it is to come.
     Unfinished,
     Metrics,
-    Refused(Refusal),
+    Refused(RequestRefusal),
 }
 
 /// What a method and a target ask for.
@@ -46,9 +46,9 @@ fn asked_by(method: &[u8], target: &[u8]) -> Asked
     ensures { result ≡ asked_by method.now target.now }
 {
     if target != TARGET {
-        Asked::Refused(Refusal::NotFound)
+        Asked::Refused(RequestRefusal::NotFound)
     } else if method != METHOD {
-        Asked::Refused(Refusal::MethodNotAllowed)
+        Asked::Refused(RequestRefusal::MethodNotAllowed)
     } else {
         Asked::Metrics
     }
@@ -60,7 +60,8 @@ pub fn read_request(request: &[u8]) -> Asked
         → length head.fields ≤ 64 → result ≡ asked_for head }
     ensures unfinished { result ≡ Asked.Unfinished → HasNoRequest request.now }
     ensures room { result ≡ Asked.Unfinished → length request.now < 4096 }
-    ensures malformed { result ≡ Asked.Refused Refusal.Malformed → NeverHasRequest request.now }
+    ensures malformed { result ≡ Asked.Refused RequestRefusal.Malformed
+        → NeverHasRequest request.now }
 {
     let mut fields = [EMPTY_HEADER_SPAN; MOST_FIELDS];
     match parse_request(request, &mut fields) {
@@ -69,10 +70,10 @@ pub fn read_request(request: &[u8]) -> Asked
             if request.len() < MOST_REQUEST {
                 Asked::Unfinished
             } else {
-                Asked::Refused(Refusal::TooLong)
+                Asked::Refused(RequestRefusal::TooLong)
             }
         }
-        Err(Error::TooManyHeaders) => Asked::Refused(Refusal::TooLong),
-        Err(_) => Asked::Refused(Refusal::Malformed),
+        Err(Error::TooManyHeaders) => Asked::Refused(RequestRefusal::TooLong),
+        Err(_) => Asked::Refused(RequestRefusal::Malformed),
     }
 }

@@ -4,7 +4,7 @@ ghost use Rattle.std.specs.Prelude.{◌≡◌, IfOk, OnOk};
 ghost use Rattle.std.specs.Io.KnownBytes.{Appends};
 ghost use Rattle.metrics.specs.Responses.{metrics_response, refusal_response, response};
 
-use crate::request::Refusal;
+use crate::request::RequestRefusal;
 use std::alloc::Global;
 use std::io::{self, Write};
 
@@ -40,30 +40,30 @@ pub fn metrics_response(alloc: Global, text: &[u8]) -> io::Result<Vec<u8>>
 }
 
 /// The response that refuses a request.
-pub fn refusal_response(alloc: Global, refusal: Refusal) -> io::Result<Vec<u8>>
+pub fn refusal_response(alloc: Global, refusal: RequestRefusal) -> io::Result<Vec<u8>>
     ensures { IfOk result (λ made. made.items ≡ refusal_response refusal) }
 {
     let mut made = Vec::new(alloc);
     match refusal {
-        Refusal::Malformed => put_response(
+        RequestRefusal::Malformed => put_response(
             &mut made,
             "400 Bad Request",
             PLAIN,
             b"this is no request of HTTP/1.1\n",
         )?,
-        Refusal::NotFound => put_response(
+        RequestRefusal::NotFound => put_response(
             &mut made,
             "404 Not Found",
             PLAIN,
             b"there is nothing but /metrics\n",
         )?,
-        Refusal::MethodNotAllowed => put_response(
+        RequestRefusal::MethodNotAllowed => put_response(
             &mut made,
             "405 Method Not Allowed",
             GET_ALONE,
             b"there is nothing but GET\n",
         )?,
-        Refusal::TooLong => put_response(
+        RequestRefusal::TooLong => put_response(
             &mut made,
             "431 Request Header Fields Too Large",
             PLAIN,

@@ -1,6 +1,6 @@
 //! Requests (RFC 9112 section 3) and what they ask for.
 
-use metrics::{Asked, Refusal, metrics_response, read_request, refusal_response};
+use metrics::{Asked, RequestRefusal, metrics_response, read_request, refusal_response};
 
 const ROWS: [(&str, Asked); 14] = [
     ("", Asked::Unfinished),
@@ -14,33 +14,33 @@ const ROWS: [(&str, Asked); 14] = [
     ),
     (
         "GET / HTTP/1.1\r\nHost: a\r\n\r\n",
-        Asked::Refused(Refusal::NotFound),
+        Asked::Refused(RequestRefusal::NotFound),
     ),
     (
         "GET /metrics/ HTTP/1.1\r\nHost: a\r\n\r\n",
-        Asked::Refused(Refusal::NotFound),
+        Asked::Refused(RequestRefusal::NotFound),
     ),
     (
         "POST /other HTTP/1.1\r\nHost: a\r\n\r\n",
-        Asked::Refused(Refusal::NotFound),
+        Asked::Refused(RequestRefusal::NotFound),
     ),
     (
         "POST /metrics HTTP/1.1\r\nHost: a\r\n\r\n",
-        Asked::Refused(Refusal::MethodNotAllowed),
+        Asked::Refused(RequestRefusal::MethodNotAllowed),
     ),
     (
         "get /metrics HTTP/1.1\r\nHost: a\r\n\r\n",
-        Asked::Refused(Refusal::MethodNotAllowed),
+        Asked::Refused(RequestRefusal::MethodNotAllowed),
     ),
     (
         "GET /metrics HTTP/2.0\r\n\r\n",
-        Asked::Refused(Refusal::Malformed),
+        Asked::Refused(RequestRefusal::Malformed),
     ),
     (
         "GET  /metrics HTTP/1.1\r\n\r\n",
-        Asked::Refused(Refusal::Malformed),
+        Asked::Refused(RequestRefusal::Malformed),
     ),
-    ("\u{0}", Asked::Refused(Refusal::Malformed)),
+    ("\u{0}", Asked::Refused(RequestRefusal::Malformed)),
 ];
 
 #[test]
@@ -63,7 +63,7 @@ fn long_requests(rt: HostRuntime) {
     let is_so = read_request(request.as_bytes()) == Asked::Unfinished;
     assert!(rt; is_so, "4,095 bytes");
     request.push('a').expect(&rt, "memory");
-    let is_so = read_request(request.as_bytes()) == Asked::Refused(Refusal::TooLong);
+    let is_so = read_request(request.as_bytes()) == Asked::Refused(RequestRefusal::TooLong);
     assert!(rt; is_so, "4,096 bytes");
 }
 
@@ -78,7 +78,9 @@ fn responses(rt: HostRuntime) {
                   a 1\n";
     let is_so = response.as_slice() == wanted.as_bytes();
     assert!(rt; is_so, "metrics");
-    let response = refusal_response(rt.alloc(), Refusal::MethodNotAllowed).expect(&rt, "memory");
+    let response = refusal_response(rt.alloc(), RequestRefusal::MethodNotAllowed).expect(
+        &rt, "memory",
+    );
     let wanted = "HTTP/1.1 405 Method Not Allowed\r\n\
                   Allow: GET\r\n\
                   Content-Type: text/plain; charset=utf-8\r\n\

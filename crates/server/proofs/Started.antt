@@ -6,7 +6,7 @@ use Rattle.rpc_msg.specs.declared.offer.Offer.{Offer}
 use Rattle.granted_calls.specs.declared.shared.Filer.{Filer}
 use Rattle.server.specs.contracts.socket.SocketDevice.TheImpl.{ghosts}
 use Rattle.server.specs.declared.socket.Socket.{Socket}
-use Rattle.server.specs.declared.task.Task.{Task}
+use Rattle.server.specs.declared.task.LaneStart.{LaneStart}
 use Rattle.lanes.specs.Words.{Identity}
 use Rattle.filer_lanes.specs.Lanes.{by_identity, places, seats_of, AllOffer, AreLanesOf, IsLaneOf}
 use Rattle.server.specs.Threads.{identity_for, identity_with, seats_for, seats_with, AllServe, AreOfThreads, AreThreadsOf, IsTaskFor, ServesFor, Thread}
@@ -20,7 +20,7 @@ same-places : {X Y : Type 0} (f : (Identity → ℕ) → X → ℕ) (g : (Identi
 same-places f g xs ys same count each weigh = same (λ i. weigh i.0) ∙ each weigh ∙ ap (λ n. total weigh (places n)) (sym count)
 
 module _ {R : Type 0} (filer : Filer) where
-  module _ (lanes : List (Lane Socket R ghosts)) (none tasks : List (Task R)) (vacant threads : List (Thread R ghosts)) (no-task : none ≡ [])
+  module _ (lanes : List (Lane Socket R ghosts)) (none tasks : List (LaneStart R)) (vacant threads : List (Thread R ghosts)) (no-task : none ≡ [])
       (no-thread : vacant ≡ [])
       (manned : (weigh : Identity → ℕ) → total (identity_for weigh) tasks ≡ total (identity_for weigh) none + total (by_identity weigh) lanes)
       (started : (weigh : Identity → ℕ) → total (identity_with weigh) threads ≡ total (identity_with weigh) vacant + total (identity_for weigh) tasks) where

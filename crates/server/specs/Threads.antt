@@ -6,7 +6,7 @@ use Rattle.connections.specs.declared.device.Device as devices
 use Rattle.lanes.specs.declared.lane.Lane.{Lane}
 use Rattle.server.specs.declared.socket.Socket.{Socket}
 use Rattle.server.specs.declared.task.Serves.{Serves}
-use Rattle.server.specs.declared.task.Task.{Task}
+use Rattle.server.specs.declared.task.LaneStart.{LaneStart}
 use Rattle.granted_calls.specs.declared.shared.Filer.{Filer}
 use Rattle.rpc_msg.specs.declared.offer.Offer.{Offer}
 use Rattle.lanes.specs.Words.{filer_in, Identity}
@@ -51,11 +51,11 @@ module _ {R : Type 0} {G : devices.Ghosts Socket} where
 -- ---- lanes whose threads aren't started yet
 
 module _ {R : Type 0} where
-  abbrev pub IsTaskFor : Filer → Task R → Type 0
+  abbrev pub IsTaskFor : Filer → LaneStart R → Type 0
   IsTaskFor filer task = filer_in task.lane ≡ filer
 
-  abbrev pub seats_for : Task R → ℕ
+  abbrev pub seats_for : LaneStart R → ℕ
   seats_for task = seats_of task.lane
 
-  abbrev pub identity_for : (Identity → ℕ) → Task R → ℕ
+  abbrev pub identity_for : (Identity → ℕ) → LaneStart R → ℕ
   identity_for weigh task = by_identity weigh task.lane

@@ -11,7 +11,7 @@ ghost use Rattle.granted_calls.specs.declared.shared.Filer.{Filer};
 use crate::common::Common;
 use crate::mailbox::Mailbox;
 use crate::socket::Socket;
-use crate::task::{Task, Thread, start_one};
+use crate::task::{LaneStart, Thread, start_one};
 use lanes::Lane;
 use std::rt::Clock;
 use std::sync::{Arc, Wait};
@@ -41,7 +41,11 @@ impl Mail {
 }
 
 /// Starts a thread for each of these lanes. Answers whether all were started.
-pub(crate) fn start_all<R>(rt: R, tasks: &mut Vec<Task<R>>, threads: &mut Vec<Thread<R>>) -> bool
+pub(crate) fn start_all<R>(
+    rt: R,
+    tasks: &mut Vec<LaneStart<R>>,
+    threads: &mut Vec<Thread<R>>,
+) -> bool
 where
     R: Threads + Wait + Clock + Copy + Drop + Send + 'static,
     requires { vec_len threads.old + vec_len tasks.old ≤ vec_capacity threads.old }

@@ -33,10 +33,10 @@ use crate::printing::print_left;
 use crate::socket::Socket;
 use crate::station::Station;
 use crate::stop_word::{StopWord, Watch};
-use crate::task::{Task, Thread};
+use crate::task::{LaneStart, Thread};
 use clerk::{Clerk, Journal};
 use connections::Device;
-use filer_lanes::{FilerEnd, Room, end, open_lanes};
+use filer_lanes::{FilerEnd, LaneBuffers, end, open_lanes};
 use granted_calls::Filer;
 use lanes::Lane;
 use metrics_server::MetricsServer;
@@ -55,7 +55,7 @@ struct Running<R> {
     mail: Mail,
     threads: Vec<Thread<R>>,
     lanes: Vec<Lane<Socket, R>>,
-    room: Room,
+    room: LaneBuffers,
     ghost none_back: { lanes.items ≡ [] },
     ghost wide: { (vec_len threads ≤ vec_capacity lanes) × (vec_len threads ≤ room.lanes) },
 }
@@ -68,7 +68,7 @@ fn man_all<R: Net + Drop>(
     common: &Arc<Common>,
     most_open: usize,
     lanes: &mut Vec<Lane<Socket, R>>,
-    tasks: &mut Vec<Task<R>>,
+    tasks: &mut Vec<LaneStart<R>>,
     boxes: &mut Vec<Arc<Mailbox>>,
 ) -> Result<(), ServerFault>
     requires tasks { vec_len tasks.old + vec_len lanes.old ≤ vec_capacity tasks.old }
@@ -91,7 +91,7 @@ fn man_all<R: Net + Drop>(
             Err(refusal) => return Err(of_start(refusal)),
         };
         boxes.push_reserved(Arc::try_clone(&station.mailbox)?);
-        tasks.push_reserved(Task { lane, station });
+        tasks.push_reserved(LaneStart { lane, station });
     }
     Ok(())
 }
@@ -162,7 +162,7 @@ where
     let mut threads = Vec::with_capacity(alloc, workers)?;
     let mut tasks = Vec::with_capacity(alloc, workers)?;
     let mut boxes = Vec::with_capacity(alloc, workers)?;
-    let room = Room::new(alloc, workers)?;
+    let room = LaneBuffers::new(alloc, workers)?;
     let common = share(alloc, options, records)?;
     let verifier = verifier_for(&rt, offer);
     let (filer, mut lanes) = open_lanes(

@@ -16,7 +16,7 @@ use std::thread::{Promise, PromisedHandle, Threads};
 
 /// A lane, and what its thread has beside it.
 #[derive(Drop)]
-pub(crate) struct Task<R> {
+pub(crate) struct LaneStart<R> {
     pub(crate) lane: Lane<Socket, R>,
     pub(crate) station: Station,
 }
@@ -38,7 +38,7 @@ impl<R> Promise<Lane<Socket, R>> for Serves<Lane<Socket, R>> {
 pub(crate) type Thread<R> = PromisedHandle<Lane<Socket, R>, Serves<Lane<Socket, R>>>;
 
 /// Starts a thread for a lane, where one can be made.
-pub(crate) fn start_one<R>(rt: R, task: Task<R>) -> Result<Thread<R>, ()>
+pub(crate) fn start_one<R>(rt: R, task: LaneStart<R>) -> Result<Thread<R>, ()>
 where
     R: Threads + Wait + Clock + Copy + Drop + Send + 'static,
     ensures { IfOk result (λ thread. started_with thread ≡ task.lane) }
@@ -53,7 +53,7 @@ where
             ensures { Stays task.lane result }
         {
             let task = task;
-            let Task { lane, station } = task;
+            let LaneStart { lane, station } = task;
             run_rounds(&rt, lane, station)
         },
     );

@@ -5,7 +5,7 @@ use Rattle.nfs_model.specs.Parts.{Hand, Empty, Fresh, Dead, range_of, IsBatch}
 use Rattle.filer_state.specs.state.Parcels.{FilerParcel}
 use Rattle.filer_state.specs.state.Jobs.{InnerCall, Fetch, Deliver, Cull, Free, Survey, Inner, JobReply, gives, batches_in, inner_node, inner_volume}
 use Rattle.filer_state.specs.state.Running.{HasSizedFiler, InnerRuns}
-use Rattle.desk.specs.laws.Calls.{Asks, Does}
+use Rattle.desk.specs.laws.Calls.{Asks, DoesTask}
 use Rattle.service.specs.declared.inner.Undone.{Undone}
 use Rattle.service.specs.declared.inner.Undone.TheVariants.{NoSuchRange, NoMemory}
 
@@ -44,7 +44,7 @@ InnerHasRun told call hand layout node f (Err NoSuchRange) f' = InnerRuns layout
 InnerHasRun told call hand layout node f (Err (NoMemory back)) f' = MayLackMemory call × (back ≡ hand) × ((k : ℕ) → f' k ≡ f k)
 
 -- work that is an inner call with what is in the hand: it asks for no more, and does nothing else
-pub record IsInner {P A : Type 0} (told : A → JobReply) (asks : Asks (FilerParcel P)) (does : Does (FilerParcel P) (InnerOutcome A))
+pub record IsInner {P A : Type 0} (told : A → JobReply) (asks : Asks (FilerParcel P)) (does : DoesTask (FilerParcel P) (InnerOutcome A))
     (call : InnerCall) (hand : Hand) : Type 0 where
   pub finds : (layout : Layout) (node : Affinity) (f : ℕ → Option (FilerParcel P)) → AsksForInner call hand layout node f → asks layout node f
   pub leaves : (layout : Layout) (node : Affinity) (f : ℕ → Option (FilerParcel P)) (outcome : InnerOutcome A) (f' : ℕ → Option (FilerParcel P))

@@ -279,7 +279,7 @@ abbrev pub AsksFor : {P : Type 0} → Call → Layout → Affinity → (ℕ → 
 AsksFor call layout node f = IsRunAt layout call node × HasFiler layout node [] f
 
 -- what its run under the node comes to; where it moves, it is run there
-abbrev pub HasRun : {P : Type 0} → Call → Caller → Moment → Layout → Affinity → (ℕ → Option (FilerParcel P)) → Outcome
+abbrev pub HasRunCall : {P : Type 0} → Call → Caller → Moment → Layout → Affinity → (ℕ → Option (FilerParcel P)) → Outcome
     → (ℕ → Option (FilerParcel P)) → Type 0
-HasRun call caller moment layout node f outcome f' =
+HasRunCall call caller moment layout node f outcome f' =
     Runs layout node (Ask (call_of call) caller) moment f (outcome_of outcome) f' × MovesOn layout call (outcome_of outcome)

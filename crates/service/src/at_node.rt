@@ -6,7 +6,7 @@ ghost use Rattle.affinity.specs.Tree.{IsNode};
 ghost use Rattle.nfs_values.specs.Caller.{caller_of};
 ghost use Rattle.nfs_values.specs.Moment.{moment_of};
 ghost use Rattle.parcels.specs.Exact.{kind_in, HasExactly};
-ghost use Rattle.service.specs.Running.{AsksFor, HasRun};
+ghost use Rattle.service.specs.Running.{AsksFor, HasRunCall};
 
 use crate::outcome::Outcome;
 use crate::task::Run;
@@ -33,7 +33,7 @@ pub fn run<N: TaskNode<Parcel<Files>, ParcelKinds>>(
     ensures exact { let L = layout_of layout.now in let a = affinity_of affinity in
         HasExactly kind_in L a (N.parcels L a held.new) }
     ensures runs { let L = layout_of layout.now in let a = affinity_of affinity in
-        HasRun task.entry.call.now
+        HasRunCall task.entry.call.now
         (caller_of task.entry.caller.now) (moment_of task.entry.moment)
         L a (N.parcels L a held.old) result (N.parcels L a held.new) }
 {

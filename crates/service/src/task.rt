@@ -33,13 +33,13 @@ pub struct Run<'a> {
 impl<'a> Task<Parcel<Files>, ParcelKinds> for Run<'a> {
     ghost use Rattle.nfs_values.specs.Caller.{caller_of};
     ghost use Rattle.nfs_values.specs.Moment.{moment_of};
-    ghost use Rattle.service.specs.Running.{AsksFor, HasRun};
+    ghost use Rattle.service.specs.Running.{AsksFor, HasRunCall};
 
     type Output = Outcome;
 
     ghost asks = { λ run. AsksFor run.call.now };
 
-    ghost does = { λ run. HasRun run.call.now
+    ghost does = { λ run. HasRunCall run.call.now
         (caller_of run.caller.now) (moment_of run.moment) };
 
     fn on_stripe(

@@ -10,8 +10,8 @@ use Rattle.affinity.specs.declared.affinity.Affinity as codes
 use Rattle.affinity.specs.declared.affinity.Affinity.TheVariants as nodes
 use Rattle.depot.specs.Calls.{IsExcluded}
 use Rattle.depot.specs.Grants.{IsAfter, IsRefused}
-use Rattle.depot.specs.declared.grants.Refusal.{Refusal}
-use Rattle.depot.specs.declared.grants.Refusal.TheVariants.{Busy}
+use Rattle.depot.specs.declared.grants.GrantRefusal.{GrantRefusal}
+use Rattle.depot.specs.declared.grants.GrantRefusal.TheVariants.{Busy}
 use Rattle.depot_rule.specs.History.{after, entries_of, listed, AreHands}
 use Rattle.depot_rule.specs.LookingBack.{LooksBack}
 use Rattle.depot_rule.specs.Plays.{IsOnly}
@@ -50,7 +50,7 @@ module _ (L : Layout) (lawful : fault_of L ≡ None) (verifier : List ℕ) (v : 
       hands own
 
 -- where a word refused the only seat, a grant of its own does
-pub excluded-by : (L : Layout) (v w : FilerView) (a node : codes.Affinity) (word : ℕ) (r : Refusal) → r ≡ Busy node word → IsRefused L v a r w → IsOnly v
+pub excluded-by : (L : Layout) (v w : FilerView) (a node : codes.Affinity) (word : ℕ) (r : GrantRefusal) → r ≡ Busy node word → IsRefused L v a r w → IsOnly v
     → IsExcluded v (number_of L (affinity_of a))
 excluded-by L v w a node word r is refused only =
-    (subst (λ (x : Refusal). IsRefused L v a x w) is refused).1.5 only
+    (subst (λ (x : GrantRefusal). IsRefused L v a x w) is refused).1.5 only

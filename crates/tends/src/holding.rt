@@ -13,7 +13,7 @@ ghost use Rattle.tends.specs.Gathered.{IsLeftOf};
 use crate::held::Held;
 use crate::left::Left;
 use affinity::Affinity;
-use depot::Refusal;
+use depot::GrantRefusal;
 use granted_calls::Filer;
 use parcels::SerialNode;
 
@@ -51,12 +51,12 @@ pub fn hold(filer: &Filer, left: Left) -> Result<Held, Left>
                 waiting,
             },
         }),
-        Err(Refusal::Worn) => Err(Left {
+        Err(GrantRefusal::Worn) => Err(Left {
             seat,
             hands,
             kept,
             waiting,
         }),
-        Err(Refusal::Busy { node: _, word: _ }) => unreachable!(),
+        Err(GrantRefusal::Busy { node: _, word: _ }) => unreachable!(),
     }
 }

@@ -12,7 +12,7 @@ use Rattle.parcels.specs.lemmas.At.{logical-own}
 use Rattle.depot_rule.specs.History.{by_number, listed}
 use Rattle.depot_rule.specs.lemmas.Listed.{by-number-at}
 use Rattle.desk.specs.laws.Books.{Lent}
-use Rattle.desk.specs.laws.Calls.{Does}
+use Rattle.desk.specs.laws.Calls.{DoesTask}
 use Rattle.desk.specs.laws.Backing.{IsDone}
 use Rattle.filer_state.specs.state.Parcels.{FilerParcel}
 use Rattle.filer_state.specs.state.Contents.{logical_in}
@@ -49,7 +49,7 @@ module _ {P : Type 0} (layout : Layout) where
       (sym (by-number-at f (1 + node_count layout) (number_of layout (Logical v)) (omega (arith, place, size))))
   told-left a there f = refl
 
-module _ {P O : Type 0} (layout : Layout) (does : Does (FilerParcel P) O) (outcome : O) (told : Option Bool) (before l m : Lent (FilerParcel P))
+module _ {P O : Type 0} (layout : Layout) (does : DoesTask (FilerParcel P) O) (outcome : O) (told : Option Bool) (before l m : Lent (FilerParcel P))
     (done : IsDone does layout before outcome l) (looked : IsDone (HasLooked {P = P}) layout l told m) where
   same : l.parcels ≡ m.parcels
   same = λ j k. sym (looked.did.0 k) j

@@ -14,8 +14,8 @@ use Rattle.depot_rule.specs.Sums.{total}
 use Rattle.depot_rule.specs.History.{after, listed, entries_of, AreHands, Legal, SoundHistory, SoundThroughout}
 use Rattle.depot_rule.specs.Plays.{HasAdded}
 use Rattle.depot.specs.Grants.{entry_of, HasWith, IsBegun, IsAfter, IsStep, IsEnded, IsFinished, IsRefused}
-use Rattle.depot.specs.declared.grants.Refusal.{Refusal}
-use Rattle.depot.specs.declared.grants.Refusal.TheVariants as refusals
+use Rattle.depot.specs.declared.grants.GrantRefusal.{GrantRefusal}
+use Rattle.depot.specs.declared.grants.GrantRefusal.TheVariants as refusals
 use Rattle.depot.specs.Words.{IsNodeOf}
 use Rattle.depot.specs.lemmas.Seats.{begun-with, begun-entries, ended-entries, ended-none, finished-entries, finished-none}
 use Rattle.desk.specs.laws.Backing.{CanFinish, CanPutBack}
@@ -77,7 +77,7 @@ module _ (layout : Layout) where
   logical-node (logicals.Cull v) on = (on, refl)
 
 -- what the depot refused, a tend is refused for
-pub refused-for : (layout : Layout) (v w : FilerView) (call : InnerCall) (refusal : Refusal) → IsRefused layout v (node_tried call) refusal w
+pub refused-for : (layout : Layout) (v w : FilerView) (call : InnerCall) (refusal : GrantRefusal) → IsRefused layout v (node_tried call) refusal w
     → IsRefusedFor layout v call (refusal_by refusal) w
 refused-for layout v w call (refusals.Busy at word) refused = refused
 refused-for layout v w call refusals.Worn refused = refused

@@ -28,7 +28,7 @@ use Rattle.granted_calls.specs.declared.turned.Turn.{Turn}
 use Rattle.granted_calls.specs.declared.turned.Turn.TheVariants as turns
 use Rattle.turns.specs.declared.worker.Worker.{Worker}
 use Rattle.depot.specs.Grants.{IsRefused}
-use Rattle.depot.specs.declared.grants.Refusal.TheVariants as refusals
+use Rattle.depot.specs.declared.grants.GrantRefusal.TheVariants as refusals
 use Rattle.filer_state.specs.state.Jobs as jobs
 use Rattle.filer_state.specs.state.Jobs.{takes, gives}
 

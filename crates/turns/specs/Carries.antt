@@ -10,8 +10,8 @@ use Rattle.parcels.specs.Exact.{kind_in}
 use Rattle.depot_rule.specs.History.{after, put_in, listed, entries_of, AreHands}
 use Rattle.depot_rule.specs.Plays.{HasAdded}
 use Rattle.depot.specs.Grants.{IsAfter, IsRefused}
-use Rattle.depot.specs.declared.grants.Refusal.{Refusal}
-use Rattle.depot.specs.declared.grants.Refusal.TheVariants as refusals
+use Rattle.depot.specs.declared.grants.GrantRefusal.{GrantRefusal}
+use Rattle.depot.specs.declared.grants.GrantRefusal.TheVariants as refusals
 use Rattle.desk.specs.laws.Backing.{IsWhole, IsGranted, IsDone}
 use Rattle.filer_state.specs.state.Contents.{filer_contents}
 use Rattle.filer_state.specs.state.Deeds.{DoesInner}
@@ -87,7 +87,7 @@ IsRefusedFor layout v call NoMemory w = MayLackMemory call
 IsRefusedFor layout v call other w = ⊥
 
 -- what a refusal of the depot answers
-abbrev pub refusal_by : Refusal → TendRefusal
+abbrev pub refusal_by : GrantRefusal → TendRefusal
 refusal_by (refusals.Busy at word) = Busy at word
 refusal_by refusals.Worn = Worn
 

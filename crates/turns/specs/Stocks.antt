@@ -5,7 +5,7 @@ use Rattle.std.specs.FinSet.{FinSet, len}
 use Rattle.nfs_model.specs.Tree.{Layout, Affinity, Logical}
 use Rattle.filer_state.specs.state.Parcels.{FilerParcel}
 use Rattle.filer_state.specs.state.Contents.{at, logical_in}
-use Rattle.desk.specs.laws.Calls.{Asks, Does}
+use Rattle.desk.specs.laws.Calls.{Asks, DoesTask}
 use Rattle.turns.specs.declared.stock.Enough.{Enough}
 use Rattle.turns.specs.declared.stock.NoStock.{NoStock}
 
@@ -43,7 +43,7 @@ abbrev pub HasTold : {P : Type 0} → Layout → Affinity → (ℕ → Option (F
 HasTold layout node f looked f' = HasLooked layout node f (told_by looked) f'
 
 -- work that is a look: it asks for nothing, and does nothing else
-pub record IsLook {P : Type 0} (asks : Asks (FilerParcel P)) (does : Does (FilerParcel P) (Result Enough NoStock)) : Type 0 where
+pub record IsLook {P : Type 0} (asks : Asks (FilerParcel P)) (does : DoesTask (FilerParcel P) (Result Enough NoStock)) : Type 0 where
   pub finds : (layout : Layout) (node : Affinity) (f : ℕ → Option (FilerParcel P)) → asks layout node f
   pub leaves : (layout : Layout) (node : Affinity) (f : ℕ → Option (FilerParcel P)) (looked : Result Enough NoStock) (f' : ℕ → Option (FilerParcel P))
       → does layout node f looked f' → HasTold layout node f looked f'

@@ -4,8 +4,8 @@ use Rattle.nfs_model.specs.Tree.{Layout}
 use Rattle.nfs_values.specs.declared.moment.Moment.{Moment}
 use Rattle.affinity.specs.Affinity.{call_affinity}
 use Rattle.depot.specs.Grants.{IsRefused}
-use Rattle.depot.specs.declared.grants.Refusal.{Refusal}
-use Rattle.depot.specs.declared.grants.Refusal.TheVariants as refusals
+use Rattle.depot.specs.declared.grants.GrantRefusal.{GrantRefusal}
+use Rattle.depot.specs.declared.grants.GrantRefusal.TheVariants as refusals
 use Rattle.outboxes.specs.Boxes.{Addressed}
 use Rattle.granted_calls.specs.declared.turned.Turn.{Turn}
 use Rattle.granted_calls.specs.declared.turned.Turn.TheVariants as turns
@@ -19,7 +19,7 @@ use Rattle.turns.specs.Words.{seat_view, passed, entries_in}
 -- ---- parts of a turn
 
 -- what a refusal of the depot answers
-abbrev pub turned_by : Refusal → Turn
+abbrev pub turned_by : GrantRefusal → Turn
 turned_by (refusals.Busy at word) = turns.Busy at word
 turned_by refusals.Worn = turns.Worn
 

@@ -15,7 +15,7 @@ ghost use Rattle.granted_calls.specs.Filers.{layout_in, verifier_in, IsReady};
 use crate::stock::{Enough, Look, NoStock, told_by};
 use crate::tend::{Carried, TendRefusal};
 use affinity::Affinity;
-use depot::{Refusal, Seat};
+use depot::{GrantRefusal, Seat};
 use desk::{NodeGrant, WorkOn, begin_node, finish_node, put_back_node, work_on_node};
 use filer_state::Files;
 use granted_calls::Filer;
@@ -58,12 +58,12 @@ pub(crate) fn volume_of(call: InnerCall) -> u32
 }
 
 /// What a tend answers where the depot refused.
-fn refused(refusal: Refusal) -> TendRefusal
+fn refused(refusal: GrantRefusal) -> TendRefusal
     ensures { result ≡ refusal_by refusal }
 {
     match refusal {
-        Refusal::Busy { node, word } => TendRefusal::Busy { node, word },
-        Refusal::Worn => TendRefusal::Worn,
+        GrantRefusal::Busy { node, word } => TendRefusal::Busy { node, word },
+        GrantRefusal::Worn => TendRefusal::Worn,
     }
 }
 
@@ -86,7 +86,7 @@ fn run_inner<
     call: InnerCall,
     work: W,
     look: S,
-) -> Result<InnerRan<NodeGrant<Parcel<Files>, N>>, (W, Refusal)>
+) -> Result<InnerRan<NodeGrant<Parcel<Files>, N>>, (W, GrantRefusal)>
     requires seat { IsSeatHere filer.now.depot seat.old }
     requires runs { IsInner batch_reply_of (W.asks work) (W.does work)
         (inner_of call) (W.carried work) }

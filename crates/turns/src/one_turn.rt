@@ -5,19 +5,19 @@ ghost use Rattle.turns.specs.Turns.{turned_by, IsTold};
 
 use crate::worker::Worker;
 use affinity::Layout;
-use depot::Refusal;
+use depot::GrantRefusal;
 use granted_calls::shared_waiting::SharedWaiting;
 use granted_calls::{Envelope, Filer, Gate, Served, Turn};
 use nfs_values::Moment;
 use std::sync::Wait;
 
 /// What a turn answers where the depot refused.
-fn refused(refusal: Refusal) -> Turn
+fn refused(refusal: GrantRefusal) -> Turn
     ensures { result ≡ turned_by refusal }
 {
     match refusal {
-        Refusal::Busy { node, word } => Turn::Busy { node, word },
-        Refusal::Worn => Turn::Worn,
+        GrantRefusal::Busy { node, word } => Turn::Busy { node, word },
+        GrantRefusal::Worn => Turn::Worn,
     }
 }
 

@@ -9,7 +9,7 @@ use Rattle.granted_calls.proofs.Crossing.{filer-send, filer-sync, shared-outboxe
 use Rattle.turns.proofs.Crossing.{worker-send}
 use Rattle.workers.specs.contracts.commons.Commons as Commons
 use Rattle.workers.specs.contracts.pool_worker.PoolWorker as PoolWorker
-use Rattle.workers.specs.contracts.task.Task as Task
+use Rattle.workers.specs.contracts.task.WorkerStart as WorkerStart
 
 commons-send : IsSend Commons.the_row
 commons-send = declared_send Commons.the_type (
@@ -26,5 +26,5 @@ pool-worker-send = declared_send PoolWorker.the_type (
   (search (pass.the_send, outboxes-send, crosses, sendable) depth 20, tt),
 )
 
-pub task-send : IsSend Task.the_row
-task-send = declared_send Task.the_type (search (commons-send, sendable) depth 20, (search (pool-worker-send, sendable) depth 20, tt))
+pub task-send : IsSend WorkerStart.the_row
+task-send = declared_send WorkerStart.the_type (search (commons-send, sendable) depth 20, (search (pool-worker-send, sendable) depth 20, tt))

@@ -14,7 +14,7 @@ ghost use Rattle.turns.specs.Words.{IsIn};
 
 use crate::commons::Commons;
 use crate::pool_worker::PoolWorker;
-use crate::task::{Task, Thread, start_one};
+use crate::task::{Thread, WorkerStart, start_one};
 use granted_calls::{Gate, OutboxesPass};
 use std::alloc::AllocError;
 use std::rt::Clock;
@@ -49,7 +49,7 @@ where
     ensures work { IfOk result (λ thread. thread.promise.work.value ≡ work) }
 {
     match share(commons, gate) {
-        Ok((commons, gate)) => start_one(rt, gate, Task { commons, work }),
+        Ok((commons, gate)) => start_one(rt, gate, WorkerStart { commons, work }),
         Err(_refused) => Err(StartRefusal::NoMemory),
     }
 }

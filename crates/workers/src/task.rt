@@ -17,7 +17,7 @@ use tends::StartRefusal;
 
 /// A worker, and what it shares with others.
 #[derive(Drop)]
-pub(crate) struct Task {
+pub(crate) struct WorkerStart {
     pub(crate) commons: Commons,
     pub(crate) work: PoolWorker,
 }
@@ -44,12 +44,12 @@ impl Promise<PoolWorker> for Serves {
 pub(crate) type Thread = PromisedHandle<PoolWorker, Serves>;
 
 /// Runs the worker until its thread is told to stop.
-fn run<R: Wait + Clock, G: Gate>(rt: &R, gate: &G, task: Task) -> PoolWorker
+fn run<R: Wait + Clock, G: Gate>(rt: &R, gate: &G, task: WorkerStart) -> PoolWorker
     requires { ServesAt (arc_value task.commons.filer) (arc_value task.commons.outboxes) task.work }
     ensures at { ServesAt (arc_value task.commons.filer) (arc_value task.commons.outboxes) result }
     ensures heir { IsPoolHeir task.work result }
 {
-    let Task { commons, work } = task;
+    let WorkerStart { commons, work } = task;
     run_rounds(
         rt,
         &commons.filer,
@@ -61,7 +61,7 @@ fn run<R: Wait + Clock, G: Gate>(rt: &R, gate: &G, task: Task) -> PoolWorker
 }
 
 /// Starts a thread for a worker, where one can be made.
-pub(crate) fn start_one<R, G>(rt: R, gate: G, task: Task) -> Result<Thread, StartRefusal>
+pub(crate) fn start_one<R, G>(rt: R, gate: G, task: WorkerStart) -> Result<Thread, StartRefusal>
 where
     R: Threads + Wait + Clock + Copy + Drop + Send + 'static,
     G: Gate + Drop + Send + 'static,

@@ -14,7 +14,7 @@ use Rattle.depot_rule.specs.Shares.{Has}
 use Rattle.depot_rule.specs.Plays.{IsOnly}
 use Rattle.depot.specs.Grants.{entry_of, IsSeatOf, HasWith, IsBegun, IsAfter, IsStep, HasInHand, IsFinished}
 use Rattle.desk.specs.laws.Books.{Lent, Books, HasLent}
-use Rattle.desk.specs.laws.Calls.{Does}
+use Rattle.desk.specs.laws.Calls.{DoesTask}
 
 -- what is lent, as a grant shows it in a layout
 abbrev pub Shows : Type 0 → Type 0 → Type 0
@@ -84,6 +84,6 @@ pub record CanPutBack {P C R : Type 0} (layout : Layout) (v : View P (Entry P C 
   pub as_granted : HasWith v (number_of layout l.affinity) l.parcels
 
 -- a task changed what is lent
-pub record IsDone {P O : Type 0} (does : Does P O) (layout : Layout) (l : Lent P) (outcome : O) (l' : Lent P) : Type 0 where
+pub record IsDone {P O : Type 0} (does : DoesTask P O) (layout : Layout) (l : Lent P) (outcome : O) (l' : Lent P) : Type 0 where
   pub affinity : l'.affinity ≡ l.affinity
   pub did : does layout l.affinity l.parcels outcome l'.parcels

@@ -14,8 +14,8 @@ abbrev pub Asks : Type 0 → Type 1
 Asks P = Layout → Affinity → (ℕ → Option P) → Type 0
 
 -- what a task does: of the layout, the affinity, its parcels before, what comes of it, and its parcels after
-abbrev pub Does : Type 0 → Type 0 → Type 1
-Does P O = Layout → Affinity → (ℕ → Option P) → O → (ℕ → Option P) → Type 0
+abbrev pub DoesTask : Type 0 → Type 0 → Type 1
+DoesTask P O = Layout → Affinity → (ℕ → Option P) → O → (ℕ → Option P) → Type 0
 
 module _ {P C R : Type 0} where
   -- what a worker has is another thing
@@ -54,7 +54,7 @@ module _ {P C R : Type 0} where
     pub fits : asks b.layout lent.affinity lent.parcels
 
   -- the parcels of a worker were changed, and no others
-  pub record HasWorked {O : Type 0} (does : Does P O) (b : Books P C R) (worker : ℕ) (outcome : O) (c : Books P C R) : Type 0 where
+  pub record HasWorked {O : Type 0} (does : DoesTask P O) (b : Books P C R) (worker : ℕ) (outcome : O) (c : Books P C R) : Type 0 where
     pub lent : Lent P
     pub is_lent : HasLent b worker lent
     pub parcels : ℕ → Option P
@@ -100,12 +100,12 @@ module _ {P C R : Type 0} where
       HasEnded b worker call (Err undone) c = HasPutBack b worker c
 
       -- a worker's call may be made at once: whatever it is lent, it may run on that, and be ended by what comes of its run
-      abbrev pub MayMake : Asks P → Does P (Result A U) → Books P C R → ℕ → Affinity → C → Type 0
+      abbrev pub MayMake : Asks P → DoesTask P (Result A U) → Books P C R → ℕ → Affinity → C → Type 0
       MayMake asks does b worker a call = (c : Books P C R) → HasBegun b worker a c → AreApart c
           → MayWork asks c worker × ((outcome : Result A U) (d : Books P C R) → HasWorked does c worker outcome d → MayEnd d worker call outcome)
 
       -- it began, ran and was ended
-      pub record HasMade (does : Does P (Result A U)) (b : Books P C R) (worker : ℕ) (a : Affinity) (call : C) (outcome : Result A U)
+      pub record HasMade (does : DoesTask P (Result A U)) (b : Books P C R) (worker : ℕ) (a : Affinity) (call : C) (outcome : Result A U)
           (c : Books P C R) : Type 0 where
         pub begun : Books P C R
         pub begins : HasBegun b worker a begun

@@ -18,16 +18,16 @@ ghost use Rattle.directories.specs.sequences.Values.{DifferByAtMost, MayRise};
 ghost use Rattle.directories.specs.sequences.Opened.{IsFirst};
 
 use crate::sequences::chunk::{put, split};
-use crate::sequences::room::Room;
+use crate::sequences::room::SpareChunk;
 use crate::sequences::tree::{First, Node, Parts, Tree};
 
 /// A tree with one more item at a position, and the room where it wasn't needed.
 pub(crate) fn inserted<T: Copy>(
     tree: Tree<T>,
-    room: Room<T>,
+    room: SpareChunk<T>,
     position: usize,
     item: T,
-) -> (Tree<T>, Option<Room<T>>)
+) -> (Tree<T>, Option<SpareChunk<T>>)
     requires within { position ≤ length tree.items }
     requires fits { length tree.items + 1 < 2 ^ 64 }
     ensures items { result.0.items ≡ insert tree.items position item }
@@ -62,7 +62,7 @@ pub(crate) fn inserted<T: Copy>(
 }
 
 /// A tree of one item.
-fn leaf<T: Copy>(room: Room<T>, item: T) -> Tree<T>
+fn leaf<T: Copy>(room: SpareChunk<T>, item: T) -> Tree<T>
     ensures items { result.items ≡ item ∷ [] }
     ensures height { result.height ≡ 1 }
 {

@@ -8,18 +8,18 @@ use std::alloc::{AllocError, Global};
 use std::marker::Model;
 
 /// Memory for a chunk, with which an item comes in without more.
-pub struct Room<T> {
+pub struct SpareChunk<T> {
     chunk: Box<Node<T>>,
 }
 
 // By hand, so that crates above have no proof of the drop of each of its parts.
-impl<T: Drop> Drop for Room<T> {
+impl<T: Drop> Drop for SpareChunk<T> {
     fn drop(self) {
-        let Room { chunk: _ } = self;
+        let SpareChunk { chunk: _ } = self;
     }
 }
 
-impl<T> Model for Room<T> {
+impl<T> Model for SpareChunk<T> {
     ghost use Rattle.std.specs.Prelude.{◌≡◌, ◌<◌, ℕ, []};
     ghost use Rattle.std.specs.Vec.{vec_capacity};
 
@@ -31,22 +31,22 @@ impl<T> Model for Room<T> {
         × (0 < vec_capacity r.chunk.value.items) };
 }
 
-impl<T: Copy> Room<T> {
+impl<T: Copy> SpareChunk<T> {
     /// Memory for this many items, in a node that is there or a new one.
     pub(crate) fn new(
         alloc: Global,
         size: usize,
         node: Option<Box<Node<T>>>,
-    ) -> Result<Room<T>, AllocError>
+    ) -> Result<SpareChunk<T>, AllocError>
         requires { 0 < size }
     {
         let items = Vec::with_capacity(alloc, size)?;
         let Some(mut chunk) = node else {
             let chunk = Box::new(alloc, Node::new(items))?;
-            return Ok(Room { chunk });
+            return Ok(SpareChunk { chunk });
         };
         chunk.items = items;
-        Ok(Room { chunk })
+        Ok(SpareChunk { chunk })
     }
 
     /// The chunk.
@@ -54,7 +54,7 @@ impl<T: Copy> Room<T> {
         ensures empty { result.value.items.items ≡ [] }
         ensures room { 0 < vec_capacity result.value.items }
     {
-        let Room { chunk } = self;
+        let SpareChunk { chunk } = self;
         chunk
     }
 }

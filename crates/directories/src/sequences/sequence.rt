@@ -21,7 +21,7 @@ ghost use Rattle.directories.specs.sequences.Values.{HasPositions};
 
 use crate::sequences::change::{inserted, removed};
 use crate::sequences::part::Part;
-use crate::sequences::room::Room;
+use crate::sequences::room::SpareChunk;
 use crate::sequences::tree::{Node, Tree};
 use std::alloc::{AllocError, Global};
 use std::marker::Model;
@@ -44,7 +44,7 @@ pub struct Sequence<T> {
     alloc: Global,
     tree: Tree<T>,
     /// Memory for the next chunk, if it is taken.
-    spare: Option<Room<T>>,
+    spare: Option<SpareChunk<T>>,
     /// Nodes for the chunks after it.
     nodes: Vec<Box<Node<T>>>,
 }
@@ -127,7 +127,7 @@ impl<T: Copy> Sequence<T> {
 
     /// Memory with which one more item comes in. There are fewer than 2^32 items, or else there is
     /// no memory for one more.
-    pub fn room(&mut self) -> Result<Room<T>, AllocError>
+    pub fn room(&mut self) -> Result<SpareChunk<T>, AllocError>
         ensures same { self.new ≡ self.old }
         ensures fits { IfOk result (λ _. length self.new < 2 ^ 32) }
     {
@@ -142,13 +142,13 @@ impl<T: Copy> Sequence<T> {
                     take_nodes(self.alloc, &mut self.nodes);
                 }
                 let node = self.nodes.pop();
-                Room::new(self.alloc, size.clamp(LEAST, MOST), node)
+                SpareChunk::new(self.alloc, size.clamp(LEAST, MOST), node)
             }
         }
     }
 
     /// Puts an item in at a position. It takes no memory but the room.
-    pub fn insert(&mut self, room: Room<T>, position: usize, item: T)
+    pub fn insert(&mut self, room: SpareChunk<T>, position: usize, item: T)
         requires within { position ≤ length self.old }
         requires fits { length self.old < 2 ^ 32 }
         ensures { self.new ≡ insert self.old position item }
@@ -164,7 +164,7 @@ impl<T: Copy> Sequence<T> {
     }
 
     /// Puts an item in behind all others. It takes no memory but the room.
-    pub fn push(&mut self, room: Room<T>, item: T)
+    pub fn push(&mut self, room: SpareChunk<T>, item: T)
         requires { length self.old < 2 ^ 32 }
         ensures { self.new ≡ self.old ++ item ∷ [] }
     {

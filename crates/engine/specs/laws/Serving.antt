@@ -8,7 +8,7 @@ use Rattle.nfs_model.specs.World.{Running, task_of}
 use Rattle.nfs_model.specs.Events.Step.{finished_call}
 use Rattle.affinity.specs.Ancestors.{Covers}
 use Rattle.affinity.specs.Numbers.{number_of, parents}
-use Rattle.desk.specs.laws.Calls.{Does}
+use Rattle.desk.specs.laws.Calls.{DoesTask}
 use Rattle.filer_state.specs.state.Parcels.{FilerParcel}
 use Rattle.filer_state.specs.state.Contents.{filer_contents}
 use Rattle.filer_state.specs.state.Sound.{AllSound}
@@ -28,7 +28,7 @@ module _ {P : Type 0} where
 
   -- What serving a message comes to, by its outcome: a reply is that of a step of the filer, and so is SYSTEM_ERR where the call
   -- was starved; a message that has to move changes nothing.
-  abbrev pub Serving : Running → Does (FilerParcel P) Outcome
+  abbrev pub Serving : Running → DoesTask (FilerParcel P) Outcome
   Serving r layout node f (Replied reply) f' =
       FilerSteps (parents layout) (number_of layout node) (Serve (finished_call r false)) f (jobs.Replied reply) f'
   Serving r layout node f Starved f' =

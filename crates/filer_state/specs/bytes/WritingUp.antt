@@ -41,8 +41,8 @@ bytes_due (Some inode) largest w = kind_due inode.kind largest w
 -- ---- what it comes to
 
 -- an answer, and nothing changed
-abbrev pub Tells : {S : Type 0} → Answer → S → Outcome → S → Type 0
-Tells answer old outcome new = (outcome ≡ Replied (Success answer)) × (new ≡ old)
+abbrev pub TellsOutcome : {S : Type 0} → Answer → S → Outcome → S → Type 0
+TellsOutcome answer old outcome new = (outcome ≡ Replied (Success answer)) × (new ≡ old)
 
 -- a move to Volume, and nothing changed
 abbrev pub MovesUp : {S : Type 0} → ℕ → S → Outcome → S → Type 0
@@ -82,8 +82,8 @@ WrittenWhereEnough true v fileid w old outcome new = MovesUp v old outcome new
 WrittenWhereEnough false v fileid w old outcome new = WrittenFromStock fileid w old outcome new
 
 abbrev pub DueInLogical : Result ℕ Status → ℕ → ℕ → Writing → LogicalSet → Outcome → LogicalSet → Type 0
-DueInLogical (Err status) v fileid w old outcome new = Tells (Failed status 2) old outcome new
-DueInLogical (Ok zero) v fileid w old outcome new = Tells (WriteDone 0 old.own.verifier) old outcome new
+DueInLogical (Err status) v fileid w old outcome new = TellsOutcome (Failed status 2) old outcome new
+DueInLogical (Ok zero) v fileid w old outcome new = TellsOutcome (WriteDone 0 old.own.verifier) old outcome new
 DueInLogical (Ok (suc n)) v fileid w old outcome new =
     WrittenWhereEnough (nat_lt (len old.own.stock) (length (holes_of fileid w old))) v fileid w old outcome new
 
@@ -149,13 +149,13 @@ WrittenWhereThere false v fileid w old outcome new = WrittenFromParts fileid w o
 
 -- NOSPC where files and holes are more than all blocks
 abbrev pub WrittenWhereFits : Bool → ℕ → ℕ → Writing → VolumeSet → Outcome → VolumeSet → Type 0
-WrittenWhereFits true v fileid w old outcome new = Tells (Failed NoSpace 2) old outcome new
+WrittenWhereFits true v fileid w old outcome new = TellsOutcome (Failed NoSpace 2) old outcome new
 WrittenWhereFits false v fileid w old outcome new =
     WrittenWhereThere (nat_lt (for_holes old) (length (holes_of fileid w old.logical))) v fileid w old outcome new
 
 abbrev pub DueInVolume : Result ℕ Status → ℕ → ℕ → Writing → VolumeSet → Outcome → VolumeSet → Type 0
-DueInVolume (Err status) v fileid w old outcome new = Tells (Failed status 2) old outcome new
-DueInVolume (Ok zero) v fileid w old outcome new = Tells (WriteDone 0 old.logical.own.verifier) old outcome new
+DueInVolume (Err status) v fileid w old outcome new = TellsOutcome (Failed status 2) old outcome new
+DueInVolume (Ok zero) v fileid w old outcome new = TellsOutcome (WriteDone 0 old.logical.own.verifier) old outcome new
 DueInVolume (Ok (suc n)) v fileid w old outcome new =
     WrittenWhereFits (nat_lt (all_blocks old) (old.logical.own.inodes.used + length (holes_of fileid w old.logical))) v fileid w old outcome new
 

@@ -23,7 +23,7 @@ use Rattle.filer_state.specs.state.Names.{directories_listed}
 use Rattle.filer_state.specs.state.Partition.{parts_of, all_parts, times_in_hand}
 use Rattle.filer_state.specs.state.Sound.{IsSound, AllSound, IsFiler}
 use Rattle.filer_state.specs.state.Jobs.{InnerCall, Job, Serve, Inner, JobReply, takes, gives, inner_node, inner_volume}
-use Rattle.filer_state.specs.state.Deeds.{Does, FilerSteps}
+use Rattle.filer_state.specs.state.Deeds.{DoesJob, FilerSteps}
 use Rattle.filer_state.specs.state.Replayed.{calls_of, replies_of, Replays}
 use Rattle.filer_state.specs.state.Lenses.{with_contents, stripe_lens, range_lens, vbn_lens, logical_lens, volume_lens, aggregate_lens, serial_lens, in_volume}
 use Rattle.filer_state.specs.state.Promises.{HasVolume, HasAll, IsLaidOut, IsRight, IsSeenBy}
@@ -235,10 +235,10 @@ ServesAll = (layout : Layout) (v : ℕ) (q : VolumeCall) (connection number xid 
     → IsCallOn layout v q caller moment
     → (c : FilerContents) → IsLaidOut layout c → (p : VolumeContents) → volume_at c v ≡ Some p → p.number ≡ v
     → (starved : Bool) (reply : JobReply) (after : VolumeContents) → ServesOn q starved p reply after
-    → Does layout q.node (Serve (finished_as q connection number xid caller moment starved)) c reply (with_contents c v after)
+    → DoesJob layout q.node (Serve (finished_as q connection number xid caller moment starved)) c reply (with_contents c v after)
 
 -- and so is an inner call
 abbrev pub InnerDoesAll : Type 0
 InnerDoesAll = (layout : Layout) (call : InnerCall) (reply : JobReply) (c : FilerContents) (p after : VolumeContents)
     → volume_at c (inner_volume call) ≡ Some p → DoesInnerOn call p reply after
-    → Does layout (inner_node call) (Inner call) c reply (with_contents c (inner_volume call) after)
+    → DoesJob layout (inner_node call) (Inner call) c reply (with_contents c (inner_volume call) after)

@@ -60,15 +60,15 @@ pub record DoesInner (node : Affinity) (call : InnerCall) (old : FilerContents) 
 
 -- ---- both
 
-abbrev pub Does : Layout → Affinity → Job → FilerContents → JobReply → FilerContents → Type 0
-Does layout node (Serve call) old (Replied reply) new = Serves layout node call old reply new
-Does layout node (Serve call) old reply new = ⊥
-Does layout node (Inner call) old reply new = DoesInner node call old reply new
+abbrev pub DoesJob : Layout → Affinity → Job → FilerContents → JobReply → FilerContents → Type 0
+DoesJob layout node (Serve call) old (Replied reply) new = Serves layout node call old reply new
+DoesJob layout node (Serve call) old reply new = ⊥
+DoesJob layout node (Inner call) old reply new = DoesInner node call old reply new
 
 -- the same of parcels by number
 abbrev pub ParcelsDo : {P : Type 0} → Layout → Affinity → Job → (ℕ → Option (FilerParcel P)) → JobReply
     → (ℕ → Option (FilerParcel P)) → Type 0
-ParcelsDo layout node job f reply f' = Does layout node job (filer_contents layout f) reply (filer_contents layout f')
+ParcelsDo layout node job f reply f' = DoesJob layout node job (filer_contents layout f) reply (filer_contents layout f')
 
 -- The steps of a filer: a is a node's number, and whatever the other parcels are, an entry does its deed, and all stays sound.
 abbrev pub FilerSteps : {P : Type 0} → Steps (FilerParcel P) Job JobReply

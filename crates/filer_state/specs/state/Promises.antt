@@ -11,7 +11,7 @@ use Rattle.filer_state.specs.state.Parcels.{FilerParcel}
 use Rattle.filer_state.specs.state.Contents.{VolumeContents, FilerContents, volume_at, filer_contents}
 use Rattle.filer_state.specs.state.Sound.{IsSound, AreSound}
 use Rattle.filer_state.specs.state.Jobs.{Job, JobReply, takes, gives}
-use Rattle.filer_state.specs.state.Deeds.{Does}
+use Rattle.filer_state.specs.state.Deeds.{DoesJob}
 use Rattle.filer_state.specs.state.Lenses.{Lens}
 
 -- what comes into all hands and what leaves them, however hands are weighed
@@ -59,7 +59,7 @@ HasAll layout lens given set = HasWhole lens (IsLaidOut layout) AreSound given s
 
 -- right for an entry under a node, whose part of all that is stored this is
 abbrev pub IsRight : {S : Type 0} → Layout → Affinity → Lens FilerContents S → Job → S → JobReply → S → Type 0
-IsRight layout node lens job old reply new = RightOnAll layout lens (Does layout node job) (takes job reply) (gives job reply) old reply new
+IsRight layout node lens job old reply new = RightOnAll layout lens (DoesJob layout node job) (takes job reply) (gives job reply) old reply new
 
 -- ---- parts and parcels by number
 

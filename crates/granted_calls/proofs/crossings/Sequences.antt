@@ -7,8 +7,8 @@ use Rattle.std.proofs.Crossing.{crosses, Box-send}
 use Rattle.directories.proofs.sequences.tree.Tree.TheLaws.TheKnot.{send-Tree}
 use Rattle.directories.specs.contracts.sequences.tree.Tree as Tree
 use Rattle.directories.specs.contracts.sequences.tree.Node as Node
-use Rattle.directories.specs.contracts.sequences.room.Room as Room
-use Rattle.directories.specs.contracts.sequences.room.Room.TheInside as RoomInside
+use Rattle.directories.specs.contracts.sequences.room.SpareChunk as Room
+use Rattle.directories.specs.contracts.sequences.room.SpareChunk.TheInside as RoomInside
 use Rattle.directories.specs.contracts.sequences.sequence.Sequence as Sequence
 use Rattle.directories.specs.contracts.sequences.sequence.Sequence.TheInside as SequenceInside
 use Rattle.granted_calls.proofs.crossings.Structs.{struct-send}

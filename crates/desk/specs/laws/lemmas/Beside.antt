@@ -7,7 +7,7 @@ use Rattle.nfs_model.specs.Tree.{Affinity}
 use Rattle.affinity.specs.Numbers.{number_of, parents}
 use Rattle.depot_rule.specs.History.{Behaviour}
 use Rattle.desk.specs.laws.Books.{Lent, Books, HasLent, IsIdle, IsUnchanged, IsWorked}
-use Rattle.desk.specs.laws.Calls.{Does, with_lent, HasBegun, HasWorked, MayPutBack, AreIdle}
+use Rattle.desk.specs.laws.Calls.{DoesTask, with_lent, HasBegun, HasWorked, MayPutBack, AreIdle}
 use Rattle.desk.specs.laws.lemmas.Seats.{at-length}
 
 module _ {P C R : Type 0} (b : Books P C R) (i : ℕ) where
@@ -43,7 +43,7 @@ module _ {P C R : Type 0} (b : Books P C R) (i : ℕ) where
 
   -- ---- work on what was lent
 
-  module _ {O : Type 0} (does : Does P O) (outcome : O) (c : Books P C R) (fresh : MayPutBack b i) (h : HasWorked does b i outcome c) where
+  module _ {O : Type 0} (does : DoesTask P O) (outcome : O) (c : Books P C R) (fresh : MayPutBack b i) (h : HasWorked does b i outcome c) where
     abbrev lent : Lent P
     lent = record { affinity = h.lent.affinity; parcels = h.parcels }
 

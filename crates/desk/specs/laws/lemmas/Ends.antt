@@ -15,7 +15,7 @@ use Rattle.depot_rule.specs.History.{Behaviour}
 use Rattle.depot.specs.Grants.{entry_of, IsEnded, IsFinished}
 use Rattle.desk.specs.laws.Books.{Lent, Books, settled, now, HasLent, UnderLent, IsSame, IsWorked, IsUnchanged, IsSettled}
 use Rattle.desk.specs.laws.Backing.{Shows, books_of, IsBacked, IsBook, CanFinish, CanPutBack}
-use Rattle.desk.specs.laws.Calls.{Asks, Does, HasPutBack, MayWork, MayFinish, HasFinished, HasWorked}
+use Rattle.desk.specs.laws.Calls.{Asks, DoesTask, HasPutBack, MayWork, MayFinish, HasFinished, HasWorked}
 use Rattle.desk.specs.laws.lemmas.Seats.{back-book, back-same, finished-book, finished-same, finished-others, finished-settled}
 use Rattle.desk.specs.laws.lemmas.Works.{worked-step, in-hand, as-granted, worked-book, worked-now}
 use Rattle.desk.specs.laws.lemmas.Begins.{in-room, map-set, books-are}
@@ -137,7 +137,7 @@ module _ {P C R G : Type 0} (shows : Shows G P) (kind : P → Kind) (L : Layout)
   pub can-work : (asks : Asks P) → MayWork asks b i → asks L l.affinity l.parcels
   can-work asks may = subst (λ (x : Lent P). asks L x.affinity x.parcels) (the-one may.lent may.is_lent) may.fits
 
-  module _ {O : Type 0} (does : Does P O) (outcome : O) (next : G) (same : (shows L next).affinity ≡ l.affinity)
+  module _ {O : Type 0} (does : DoesTask P O) (outcome : O) (next : G) (same : (shows L next).affinity ≡ l.affinity)
       (exact : HasExactly kind L (shows L next).affinity (shows L next).parcels) where
     exact-so : HasExactly kind L l.affinity (shows L next).parcels
     exact-so = subst (λ (a : Affinity). HasExactly kind L a (shows L next).parcels) same exact

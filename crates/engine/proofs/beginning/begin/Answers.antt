@@ -10,7 +10,7 @@ use Rattle.affinity.specs.declared.affinity.CallNode.{CallNode}
 use Rattle.affinity.specs.Affinity.{call_node}
 use Rattle.affinity.specs.Tree.{IsNode}
 use Rattle.desk.specs.laws.Calls as desks
-use Rattle.desk.specs.Refusal.{IsRefused}
+use Rattle.desk.specs.BeginRefusal.{IsRefused}
 use Rattle.desk.specs.Words.{books}
 use Rattle.service.specs.Jobs.{job_of, job_reply_of}
 use Rattle.engine_feed.specs.Words.{HasBegun}
@@ -21,7 +21,7 @@ use Rattle.engine.specs.declared.worker.WorkerRun.{WorkerRun}
 use Rattle.engine.specs.declared.worker.WorkerRun.TheVariants.{Idle, Begun}
 use Rattle.engine.specs.declared.state.State.{State}
 use Rattle.engine.specs.Seen.{worker_seen, setup_in, world}
-use Rattle.engine.specs.Words.{Does}
+use Rattle.engine.specs.Words.{DoesEvent}
 use Rattle.engine.specs.Workers.{worker_with}
 use Rattle.engine.proofs.Workers.{seen-at, idle-there, idle-asked, idle-worker, in-vector, one-worker}
 use Rattle.engine.proofs.Begins.{begin-busy, begin-missing, none-waits, found-message, idle-lent, same-books, tried-affinity}
@@ -150,7 +150,7 @@ module _ (c : goal.After-set_run) where
 
 pub returns-in-Ok-begin-clause-events : goal.returns-in-Ok-begin-clause-events
 returns-in-Ok-begin-clause-events c =
-    subst (λ (a : CallNode). Does (s c) (Begin c.args.worker c.args.place (moment_of c.args.moment)) (Ok (Granted a)) (new c)) (sym (tried c))
+    subst (λ (a : CallNode). DoesEvent (s c) (Begin c.args.worker c.args.place (moment_of c.args.moment)) (Ok (Granted a)) (new c)) (sym (tried c))
     (begun_events (s c) (new c) c.requires c.args.worker c.args.place (r c) (hand c) (changed c) refl c.requires.keyed refl
     c.in-Ok.ensures.kept (begins c) (takes c)
     c.if-moment-ge-SECOND.false)

@@ -12,7 +12,7 @@ use Rattle.engine.specs.declared.connection.ClosedConnection.{ClosedConnection}
 use Rattle.engine.specs.declared.event.Done.TheVariants as dones
 use Rattle.engine.specs.declared.state.State.{State}
 use Rattle.engine.specs.Sound.{IsSoundEngine}
-use Rattle.engine.specs.Words.{Does}
+use Rattle.engine.specs.Words.{DoesEvent}
 use Rattle.engine.proofs.Keyed.{contains, found-key, no-key}
 use Rattle.engine.proofs.Closing.{shut-events, closes, closes-sound}
 use Rattle.engine.proofs.connecting.close_connection.Goals as goal
@@ -58,7 +58,7 @@ module _ (c : goal.After-set_closed) where
 pub returns-clause-events : goal.returns-clause-events
 returns-clause-events c =
     subst
-    (λ (v : Vec Connection). Does (s c) (events.Close c.args.connection) (Ok dones.Closed) (record (s c) { connections = v; slab = c.remove.new.self }))
+    (λ (v : Vec Connection). DoesEvent (s c) (events.Close c.args.connection) (Ok dones.Closed) (record (s c) { connections = v; slab = c.remove.new.self }))
     (sym c.set_closed.ensures)
     (closes (s c) c.requires c.args.connection c.in-Some.key (at c) c.remove.result (was c) c.remove.new.self c.remove.ensures.updates
     c.remove.ensures.len (put c) c.into_parts-stream.ensures.stream c.into_parts-stream.ensures.output (count c))

@@ -3,7 +3,7 @@ use Rattle.nfs_model.specs.Tree.{Affinity}
 use Rattle.affinity.specs.Affinity.{affinity_of, kind_of}
 use Rattle.affinity.specs.Tree.{IsNode}
 use Rattle.desk.specs.laws.Calls as desks
-use Rattle.desk.specs.Refusal.{IsRefused}
+use Rattle.desk.specs.BeginRefusal.{IsRefused}
 use Rattle.desk.specs.Words.{books, machine_in}
 use Rattle.service.specs.Jobs.{inner_of}
 use Rattle.service.specs.declared.job.Job.TheVariants.{Inner}

@@ -8,7 +8,7 @@ use Rattle.desk.specs.Words.{books}
 use Rattle.engine.specs.laws.Store.{FilerBooks}
 use Rattle.service.specs.declared.job.Job.{Job}
 use Rattle.service.specs.declared.job.JobReply.{JobReply}
-use Rattle.service.specs.Running.{HasRun}
+use Rattle.service.specs.Running.{HasRunCall}
 use Rattle.engine.specs.counts.Counts.{AreSized, IsCounted}
 use Rattle.engine.proofs.Counted.{may-recount, recounted}
 use Rattle.engine.proofs.working.run_on.Goals as goal
@@ -26,7 +26,7 @@ pub returns-clause-worked : goal.returns-clause-worked
 returns-clause-worked c =
     let r = c.args.running.now in
     subst (λ (b : FilerBooks Files Job JobReply).
-    HasWorked (HasRun r.message.call (caller_of r.message.caller) (moment_of r.moment)) (books c.args.desk.now) c.args.worker c.work-outcome.result b)
+    HasWorked (HasRunCall r.message.call (caller_of r.message.caller) (moment_of r.moment)) (books c.args.desk.now) c.args.worker c.work-outcome.result b)
     (sym c.recount.ensures.same)
     c.work-outcome.ensures.worked
 

@@ -23,7 +23,7 @@ use Rattle.filer_state.specs.state.Contents.{filer_contents}
 use Rattle.filer_state.specs.state.Deeds.{stored_all}
 use Rattle.filer_state.specs.declared.files.Files.{Files}
 use Rattle.desk.specs.laws.Books.{now, stamps}
-use Rattle.desk.specs.laws.Calls.{Does, HasWorked}
+use Rattle.desk.specs.laws.Calls.{DoesTask, HasWorked}
 use Rattle.engine.specs.laws.Store.{FilerBooks, StandsFor}
 use Rattle.engine.specs.laws.Serving.{Serving}
 use Rattle.engine.specs.laws.lemmas.Working.{works, worked-stands}
@@ -31,7 +31,7 @@ use Rattle.engine.specs.laws.lemmas.Happening.{book-apart, work-happens}
 use Rattle.engine.specs.laws.lemmas.Sized.{now-sized}
 use Rattle.desk.specs.Words.{books}
 use Rattle.service.specs.Jobs.{job_of, job_reply_of}
-use Rattle.service.specs.Running.{outcome_of, IsRunAt, MovesOn, HasRun}
+use Rattle.service.specs.Running.{outcome_of, IsRunAt, MovesOn, HasRunCall}
 use Rattle.service.specs.lemmas.Serving.{run-tried}
 use Rattle.service.specs.declared.job.Job.{Job}
 use Rattle.service.specs.declared.job.JobReply.{JobReply}
@@ -187,9 +187,9 @@ module _ (c : goal.After-set_run-2) where
   abbrev ks' : List Worker
   ks' = c.set_run-2.new.workers.items
 
-  abbrev Serves : Call → Does (FilerParcel Files) Outcome
+  abbrev Serves : Call → DoesTask (FilerParcel Files) Outcome
   Serves call layout node before x end =
-      HasRun call (caller_of r.message.caller) (moment_of r.moment) layout node before x end
+      HasRunCall call (caller_of r.message.caller) (moment_of r.moment) layout node before x end
 
   abbrev after : Store
   after = stored_all (filer_contents next.layout (now next))

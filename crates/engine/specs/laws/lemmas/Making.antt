@@ -21,7 +21,7 @@ use Rattle.depot_rule.specs.History.{patched}
 use Rattle.depot_rule.specs.lemmas.Trees.{cover-excludes}
 use Rattle.depot.specs.Grants.{entry_of}
 use Rattle.desk.specs.laws.Books.{Lent, settled, now, stamps, HasLent, IsIdle, UnderLent, HasHands, IsSettled}
-use Rattle.desk.specs.laws.Calls.{Does, with_lent, HasBegun, HasWorked, MayFinish, HasFinished, MayPutBack, HasPutBack}
+use Rattle.desk.specs.laws.Calls.{DoesTask, with_lent, HasBegun, HasWorked, MayFinish, HasFinished, MayPutBack, HasPutBack}
 use Rattle.desk.specs.laws.lemmas.Overlays.{overlaid-here}
 use Rattle.desk.specs.laws.lemmas.Seats.{at-length}
 use Rattle.desk.specs.laws.lemmas.Beside.{lent-here, begun-fresh, still-fresh, work-lent, work-done}
@@ -136,7 +136,7 @@ module _ {P C R : Type 0} (job : C → Job) (told : R → JobReply) (b : FilerBo
 
   -- ---- it runs
 
-  module _ {O : Type 0} (does : Does (FilerParcel P) O) (o : O) (d : FilerBooks P C R) (works : HasWorked does c i o d) where
+  module _ {O : Type 0} (does : DoesTask (FilerParcel P) O) (o : O) (d : FilerBooks P C R) (works : HasWorked does c i o d) where
     pub ran-on : works.lent ≡ l
     ran-on = let e = some-injective (Some works.lent) (Some l) (sym works.is_lent ∙ lent) in cc
 

@@ -12,7 +12,7 @@ use Rattle.affinity.specs.Alike.{AreAlike}
 use Rattle.filer_state.specs.state.Parcels.{FilerParcel}
 use Rattle.filer_state.specs.state.Contents.{FilerContents, each, logical_in, stripe_in, range_in, spare_in, contents_of, filer_contents}
 use Rattle.filer_state.specs.state.Jobs.{Job, Serve, Inner, JobReply, Replied, Took, Gave, Surveyed}
-use Rattle.filer_state.specs.state.Deeds.{IsHomeOrAbove, Does}
+use Rattle.filer_state.specs.state.Deeds.{IsHomeOrAbove, DoesJob}
 
 module _ {P : Type 0} (l m : Layout) (s : AreAlike l m) (f : ℕ → Option (FilerParcel P)) where
   contents-same : (v : ℕ) → contents_of l f v ≡ contents_of m f v
@@ -86,8 +86,8 @@ module _ (l m : Layout) (s : AreAlike l m) where
       (h.0, sym (home-of-asked-same asked) ∙ h.1, subst IsTrue (λ j. begins (path-same node j) (path-same h.0 j)) h.2)
 
   -- an entry does in the one what it does in the other
-  pub does-same : (node : Affinity) (job : Job) (old : FilerContents) (reply : JobReply) (new : FilerContents) → Does l node job old reply new
-      → Does m node job old reply new
+  pub does-same : (node : Affinity) (job : Job) (old : FilerContents) (reply : JobReply) (new : FilerContents) → DoesJob l node job old reply new
+      → DoesJob m node job old reply new
   does-same node (Serve call) old (Replied reply) new d = record {
     affinity = d.affinity;
     tried = tried-same call.asked node d.tried;

@@ -22,7 +22,7 @@ use Rattle.filer_state.specs.state.Contents.{FilerContents, filer_contents}
 use Rattle.filer_state.specs.state.Tree.{server_of, tree}
 use Rattle.filer_state.specs.state.Sound.{AreSound, AllSound, IsFiler}
 use Rattle.filer_state.specs.state.Jobs.{Job, Serve, Inner, JobReply, Replied, Took, Gave, Surveyed, takes, gives}
-use Rattle.filer_state.specs.state.Deeds.{task_at, stored_all, outcome_of, Serves, Does, FilerSteps}
+use Rattle.filer_state.specs.state.Deeds.{task_at, stored_all, outcome_of, Serves, DoesJob, FilerSteps}
 use Rattle.filer_state.specs.state.Promises.{HandsMove}
 use Rattle.filer_state.specs.state.Replayed.{call_before, reply_before, calls_of, replies_of, Replays}
 use Rattle.filer_state.specs.laws.lemmas.Alike.{filer-same}
@@ -58,7 +58,7 @@ module _ (layout : Layout) (node : Affinity) where
       by false e w = from false e w.1 w.2 tt
 
   entry-replays : (job : Job) (reply : JobReply) (old new : FilerContents) (last : Server) (calls : List FinishedCall) (replies : List Reply)
-      → Does layout node job old reply new → Replays (server_of new) last calls replies
+      → DoesJob layout node job old reply new → Replays (server_of new) last calls replies
       → Replays (server_of old) last (call_before job calls) (reply_before job reply replies)
   entry-replays (Serve call) (Replied reply) old new last calls replies does more = serve-replays call reply old new last calls replies does more
   entry-replays (Serve call) (Took hand) old new last calls replies does more = absurd does

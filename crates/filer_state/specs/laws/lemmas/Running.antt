@@ -9,7 +9,7 @@ use Rattle.filer_state.specs.state.Contents.{VolumeContents, FilerContents, file
 use Rattle.filer_state.specs.state.Jobs as jobs
 use Rattle.filer_state.specs.state.Jobs.{InnerCall, Job, JobReply, Serve, Inner, takes, gives, inner_node, inner_volume}
 use Rattle.filer_state.specs.state.Partition.{AreOf}
-use Rattle.filer_state.specs.state.Deeds.{Does, FilerSteps}
+use Rattle.filer_state.specs.state.Deeds.{DoesJob, FilerSteps}
 use Rattle.filer_state.specs.state.Lenses.{Lens, in_volume, volume_or_none}
 use Rattle.filer_state.specs.state.Promises.{RightOnVolume, IsRight, IsSeenBy}
 use Rattle.filer_state.specs.state.Calls.{VolumeCall, IsCallOn, ServesOn, DoesInnerOn, finished_as}
@@ -24,7 +24,7 @@ serve-right : {S : Type 0} (layout : Layout) (v : ℕ) (on : v < length layout.v
     → (old : S) (reply : Reply) (new : S) → RightOnVolume v lens (ServesOn q starved) [] [] old (jobs.Replied reply) new
     → IsRight layout q.node (in_volume v lens) (Serve (finished_as q connection number xid caller moment starved)) old (jobs.Replied reply) new
 serve-right layout v on lens numbered q connection number xid caller moment starved is old reply new right =
-    volume-right layout v on lens (Does layout q.node (Serve (finished_as q connection number xid caller moment starved))) (ServesOn q starved) [] []
+    volume-right layout v on lens (DoesJob layout q.node (Serve (finished_as q connection number xid caller moment starved))) (ServesOn q starved) [] []
     old (jobs.Replied reply) new numbered (λ u ne n. refl) (λ u ne n. refl)
     (λ c p after laid there here same does.
     serve-lift layout v q connection number xid caller moment is c laid p there here starved (jobs.Replied reply) after does) right
@@ -72,7 +72,7 @@ module _ {P S : Type 0} (layout : Layout) (call : InnerCall) (on : inner_volume 
       → AreOf (inner_volume call) (taken_by call outcome) → AreOf (inner_volume call) (given_by call outcome)
       → (outcome ≡ None → (k : ℕ) → after k ≡ before k) → InnerRuns layout (inner_node call) call before outcome after
   inner-runs-by (Some reply) right from to same =
-      step reply (volume-right layout (inner_volume call) on lens (Does layout (inner_node call) (Inner call)) (DoesInnerOn call)
+      step reply (volume-right layout (inner_volume call) on lens (DoesJob layout (inner_node call) (Inner call)) (DoesInnerOn call)
       (takes (Inner call) reply) (gives (Inner call) reply) old reply new numbered from to
       (λ c p next laid there here kept does. inner-lift layout call reply c p next there does) right)
   inner-runs-by None right from to same = (refused, same refl)

@@ -18,7 +18,7 @@ use Rattle.filer_state.specs.state.Partition.{parts_of, all_parts, stored}
 use Rattle.filer_state.specs.state.Lenses.{with_contents}
 use Rattle.filer_state.specs.state.Promises.{IsLaidOut}
 use Rattle.filer_state.specs.state.Jobs.{InnerCall, Serve, Inner, JobReply, Replied, Took, Gave, Surveyed, inner_node, inner_volume}
-use Rattle.filer_state.specs.state.Deeds.{stored_all, task_at, outcome_of, Does}
+use Rattle.filer_state.specs.state.Deeds.{stored_all, task_at, outcome_of, DoesJob}
 use Rattle.filer_state.specs.state.Calls.{VolumeCall, handle_in, located_on, answer_of, volume_left, answer_on, move_of_located, move_on, WorksOn, ServesOn}
 use Rattle.filer_state.specs.state.Calls.{DoesInnerOn, finished_as, IsCallOn}
 use Rattle.filer_state.specs.laws.lemmas.Each.{get-there}
@@ -78,7 +78,7 @@ module _ (c : FilerContents) (v : ℕ) (p : VolumeContents) (there : volume_at c
 
 pub inner-lift : (layout : Layout) (call : InnerCall) (reply : JobReply) (c : FilerContents) (p after : VolumeContents)
     → volume_at c (inner_volume call) ≡ Some p → DoesInnerOn call p reply after
-    → Does layout (inner_node call) (Inner call) c reply (with_contents c (inner_volume call) after)
+    → DoesJob layout (inner_node call) (Inner call) c reply (with_contents c (inner_volume call) after)
 inner-lift layout call reply c p after there does = record {
   under = refl;
   server = server-stays c (inner_volume call) p there after does.0;
@@ -171,7 +171,7 @@ module _ (layout : Layout) (v : ℕ) (q : VolumeCall) (connection number xid : �
 
   -- an entry of the call on its volume is one of all that is stored
   pub serve-lift : (starved : Bool) (reply : JobReply) (after : VolumeContents) → ServesOn q starved p reply after
-      → Does layout q.node (Serve (finished_as q connection number xid caller moment starved)) c reply (with_contents c v after)
+      → DoesJob layout q.node (Serve (finished_as q connection number xid caller moment starved)) c reply (with_contents c v after)
   serve-lift starved (Replied reply) after does = record {
     affinity = refl;
     tried = is.tried;

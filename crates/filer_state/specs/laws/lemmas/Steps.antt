@@ -18,7 +18,7 @@ use Rattle.filer_state.specs.state.Contents.{VolumeContents, FilerContents, each
 use Rattle.filer_state.specs.state.Partition.{times_in_hand, AreOf}
 use Rattle.filer_state.specs.state.Sound.{IsSound, AreSound}
 use Rattle.filer_state.specs.state.Jobs.{Job, JobReply, takes, gives}
-use Rattle.filer_state.specs.state.Deeds.{Does, ParcelsDo, FilerSteps}
+use Rattle.filer_state.specs.state.Deeds.{DoesJob, ParcelsDo, FilerSteps}
 use Rattle.filer_state.specs.state.Lenses.{Lens, in_volume, volume_or_none, with_contents}
 use Rattle.filer_state.specs.state.Promises.{RightOnVolume, RightOnAll, IsLaidOut, IsSeenBy}
 use Rattle.filer_state.specs.laws.lemmas.Each.{each-get, each-length, get-there}
@@ -44,7 +44,7 @@ module _ {P S : Type 0} (layout : Layout) (lawful : fault_of layout ≡ None) (n
   pub step-by : (job : Job) (reply : JobReply) (old new : S) (before after : ℕ → Option (FilerParcel P))
       → IsSeenBy layout node lens before old → IsSeenBy layout node lens after new
       → ((k : ℕ) → (Covers (parents layout) (number_of layout node) k → ⊥) → after k ≡ before k)
-      → RightOnAll layout lens (Does layout node job) (takes job reply) (gives job reply) old reply new
+      → RightOnAll layout lens (DoesJob layout node job) (takes job reply) (gives job reply) old reply new
       → FilerSteps (parents layout) (number_of layout node) job before reply after
   step-by job reply old new before after was is others right = (
     place.0,
@@ -64,8 +64,8 @@ module _ {P S : Type 0} (layout : Layout) (lawful : fault_of layout ≡ None) (n
             λ other inside numbered.
                 let one : other ≡ node = own_number layout other node ((same.node other).0 inside) there (sym (same.number other) ∙ numbered) in
                 subst (λ (b : Affinity). ParcelsDo m b job g reply next) (sym one)
-                (subst (λ (x : FilerContents). Does m node job x reply (filer_contents m next)) (sym (filer-same m layout same g))
-                (subst (λ (x : FilerContents). Does m node job c reply x) (sym later)
+                (subst (λ (x : FilerContents). DoesJob m node job x reply (filer_contents m next)) (sym (filer-same m layout same g))
+                (subst (λ (x : FilerContents). DoesJob m node job c reply x) (sym later)
                 (does-same layout m (alike layout m (sym of.1)) node job c reply (lens.put new c) done.0))),
             subst (λ (x : FilerContents). AreSound x hands' (made + 1)) (sym later) done.1,
           );
