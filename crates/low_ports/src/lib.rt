@@ -12,6 +12,9 @@ use std::net::{IpAddr, Ipv4Addr, Ipv6Addr, Net, SocketAddr, TcpStream};
 use std::os::fd::AsRawFd;
 use std::time::Duration;
 
+/// The ports below it are given to root alone.
+const LOW_PORTS: u16 = 1_024;
+
 /// The last of the ports that are tried, from 1023 downwards.
 const LAST: u16 = 512;
 
@@ -60,7 +63,7 @@ fn connect_from(server: &SocketAddr, port: u16, patience: Duration) -> io::Resul
 /// free of 1023 downwards. Where the system gives these ports to others alone that is
 /// `PermissionDenied`.
 pub fn connect(_net: &impl Net, server: &SocketAddr, patience: Duration) -> io::Result<TcpStream> {
-    for port in (LAST..1_024).rev() {
+    for port in (LAST..LOW_PORTS).rev() {
         match connect_from(server, port, patience) {
             Ok(stream) => return Ok(stream),
             Err(error) => match error.kind() {

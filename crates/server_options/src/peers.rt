@@ -7,6 +7,7 @@ ghost use Rattle.server_options.specs.Peers.{MayStop, OnlyReads, ReadsBy, Serves
 
 use crate::allowed::AllowedNetwork;
 use crate::network::{Network, is_mapped, mapped_in};
+use crate::peer_rules::LOW_PORTS;
 use nfs_values::PeerAddress;
 use std::fmt;
 use std::net::{IpAddr, Ipv6Addr, SocketAddr};
@@ -140,7 +141,7 @@ fn is_here(own: &IpAddr, address: &IpAddr) -> bool
 pub fn may_stop(own: &IpAddr, peer: &SocketAddr) -> bool
     ensures { IsTrue result ↔ MayStop own.now peer.now }
 {
-    peer.port() < 1_024 && is_here(own, &peer.ip())
+    peer.port() < LOW_PORTS && is_here(own, &peer.ip())
 }
 
 /// The number of an address: of an IPv4 address its 32 bits, also where it is in IPv6's form.
