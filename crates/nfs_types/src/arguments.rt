@@ -52,7 +52,6 @@ fn target(alloc: Global, bytes: &[u8]) -> Result<Target, Bad>
 }
 
 /// NULL (RFC 1813 section 3.3.0).
-#[inline(never)]
 fn null(bytes: &[u8]) -> Result<Call, Bad>
     ensures { Makes call_of false result (asked_by Void null_call bytes.now) }
 {
@@ -61,7 +60,6 @@ fn null(bytes: &[u8]) -> Result<Call, Bad>
 }
 
 /// GETATTR (RFC 1813 section 3.3.1).
-#[inline(never)]
 fn get_attributes(bytes: &[u8]) -> Result<Call, Bad>
     ensures { Makes call_of false result (asked_by handle_shape getattr_call bytes.now) }
 {
@@ -70,7 +68,6 @@ fn get_attributes(bytes: &[u8]) -> Result<Call, Bad>
 }
 
 /// SETATTR (RFC 1813 section 3.3.2).
-#[inline(never)]
 fn set_attributes(bytes: &[u8]) -> Result<Call, Bad>
     ensures { Makes call_of false result (asked_by setattr_shape setattr_call bytes.now) }
 {
@@ -81,7 +78,6 @@ fn set_attributes(bytes: &[u8]) -> Result<Call, Bad>
 }
 
 /// LOOKUP (RFC 1813 section 3.3.3).
-#[inline(never)]
 fn lookup(alloc: Global, bytes: &[u8]) -> Result<Call, Bad>
     ensures { Makes call_of true result (asked_by target_shape lookup_call bytes.now) }
 {
@@ -89,7 +85,6 @@ fn lookup(alloc: Global, bytes: &[u8]) -> Result<Call, Bad>
 }
 
 /// ACCESS (RFC 1813 section 3.3.4).
-#[inline(never)]
 fn check_access(bytes: &[u8]) -> Result<Call, Bad>
     ensures { Makes call_of false result (asked_by access_shape access_call bytes.now) }
 {
@@ -98,7 +93,6 @@ fn check_access(bytes: &[u8]) -> Result<Call, Bad>
 }
 
 /// READLINK (RFC 1813 section 3.3.5).
-#[inline(never)]
 fn read_link(bytes: &[u8]) -> Result<Call, Bad>
     ensures { Makes call_of false result (asked_by handle_shape readlink_call bytes.now) }
 {
@@ -107,7 +101,6 @@ fn read_link(bytes: &[u8]) -> Result<Call, Bad>
 }
 
 /// READ (RFC 1813 section 3.3.6).
-#[inline(never)]
 fn read(bytes: &[u8]) -> Result<Call, Bad>
     ensures { Makes call_of false result (asked_by range_shape read_call bytes.now) }
 {
@@ -120,7 +113,6 @@ fn read(bytes: &[u8]) -> Result<Call, Bad>
 }
 
 /// WRITE (RFC 1813 section 3.3.7).
-#[inline(never)]
 fn write(alloc: Global, bytes: &[u8]) -> Result<Call, Bad>
     ensures { Makes call_of true result (asked_by writing_shape write_call bytes.now) }
 {
@@ -136,7 +128,6 @@ fn write(alloc: Global, bytes: &[u8]) -> Result<Call, Bad>
 }
 
 /// WRITE, by the bytes of its record from one on, whose data stay in the record.
-#[inline(never)]
 fn write_in_place(record: Vec<u8>, from: usize) -> Result<Call, Bad>
     requires { from ≤ length record.items }
     ensures { Makes call_of true result
@@ -156,7 +147,6 @@ fn write_in_place(record: Vec<u8>, from: usize) -> Result<Call, Bad>
 }
 
 /// CREATE (RFC 1813 section 3.3.8).
-#[inline(never)]
 fn create(alloc: Global, bytes: &[u8]) -> Result<Call, Bad>
     ensures { Makes call_of true result (asked_by creating_shape create_call bytes.now) }
 {
@@ -166,7 +156,6 @@ fn create(alloc: Global, bytes: &[u8]) -> Result<Call, Bad>
 }
 
 /// MKDIR (RFC 1813 section 3.3.9).
-#[inline(never)]
 fn make_directory(alloc: Global, bytes: &[u8]) -> Result<Call, Bad>
     ensures { Makes call_of true result (asked_by making_shape mkdir_call bytes.now) }
 {
@@ -176,7 +165,6 @@ fn make_directory(alloc: Global, bytes: &[u8]) -> Result<Call, Bad>
 }
 
 /// SYMLINK (RFC 1813 section 3.3.10), whose name and text are copied once nothing is left over.
-#[inline(never)]
 fn make_symbolic_link(alloc: Global, bytes: &[u8]) -> Result<Call, Bad>
     ensures { Makes call_of true result (asked_by symlinking_shape symlink_call bytes.now) }
 {
@@ -189,7 +177,6 @@ fn make_symbolic_link(alloc: Global, bytes: &[u8]) -> Result<Call, Bad>
 }
 
 /// MKNOD (RFC 1813 section 3.3.11).
-#[inline(never)]
 fn make_device(alloc: Global, bytes: &[u8]) -> Result<Call, Bad>
     ensures { Makes call_of true result (asked_by mknodding_shape mknod_call bytes.now) }
 {
@@ -203,7 +190,6 @@ fn make_device(alloc: Global, bytes: &[u8]) -> Result<Call, Bad>
 }
 
 /// REMOVE (RFC 1813 section 3.3.12).
-#[inline(never)]
 fn remove(alloc: Global, bytes: &[u8]) -> Result<Call, Bad>
     ensures { Makes call_of true result (asked_by target_shape remove_call bytes.now) }
 {
@@ -211,7 +197,6 @@ fn remove(alloc: Global, bytes: &[u8]) -> Result<Call, Bad>
 }
 
 /// RMDIR (RFC 1813 section 3.3.13).
-#[inline(never)]
 fn remove_directory(alloc: Global, bytes: &[u8]) -> Result<Call, Bad>
     ensures { Makes call_of true result (asked_by target_shape rmdir_call bytes.now) }
 {
@@ -219,7 +204,6 @@ fn remove_directory(alloc: Global, bytes: &[u8]) -> Result<Call, Bad>
 }
 
 /// RENAME (RFC 1813 section 3.3.14), whose names are copied once nothing is left over.
-#[inline(never)]
 fn rename(alloc: Global, bytes: &[u8]) -> Result<Call, Bad>
     ensures { Makes call_of true result (asked_by renaming_shape rename_call bytes.now) }
 {
@@ -232,7 +216,6 @@ fn rename(alloc: Global, bytes: &[u8]) -> Result<Call, Bad>
 }
 
 /// LINK (RFC 1813 section 3.3.15).
-#[inline(never)]
 fn make_link(alloc: Global, bytes: &[u8]) -> Result<Call, Bad>
     ensures { Makes call_of true result (asked_by linking_shape link_call bytes.now) }
 {
@@ -242,7 +225,6 @@ fn make_link(alloc: Global, bytes: &[u8]) -> Result<Call, Bad>
 }
 
 /// READDIR (RFC 1813 section 3.3.16).
-#[inline(never)]
 fn read_directory(bytes: &[u8]) -> Result<Call, Bad>
     ensures { Makes call_of false result (asked_by listing_shape readdir_call bytes.now) }
 {
@@ -258,7 +240,6 @@ fn read_directory(bytes: &[u8]) -> Result<Call, Bad>
 }
 
 /// READDIRPLUS (RFC 1813 section 3.3.17), whose dircount bounds the names.
-#[inline(never)]
 fn read_directory_plus(bytes: &[u8]) -> Result<Call, Bad>
     ensures { Makes call_of false result
         (asked_by listing_plus_shape readdirplus_call bytes.now) }
@@ -276,7 +257,6 @@ fn read_directory_plus(bytes: &[u8]) -> Result<Call, Bad>
 }
 
 /// FSSTAT (RFC 1813 section 3.3.18).
-#[inline(never)]
 fn filesystem_status(bytes: &[u8]) -> Result<Call, Bad>
     ensures { Makes call_of false result (asked_by handle_shape fsstat_call bytes.now) }
 {
@@ -285,7 +265,6 @@ fn filesystem_status(bytes: &[u8]) -> Result<Call, Bad>
 }
 
 /// FSINFO (RFC 1813 section 3.3.19).
-#[inline(never)]
 fn filesystem_info(bytes: &[u8]) -> Result<Call, Bad>
     ensures { Makes call_of false result (asked_by handle_shape fsinfo_call bytes.now) }
 {
@@ -294,7 +273,6 @@ fn filesystem_info(bytes: &[u8]) -> Result<Call, Bad>
 }
 
 /// PATHCONF (RFC 1813 section 3.3.20).
-#[inline(never)]
 fn path_configuration(bytes: &[u8]) -> Result<Call, Bad>
     ensures { Makes call_of false result (asked_by handle_shape pathconf_call bytes.now) }
 {
@@ -303,7 +281,6 @@ fn path_configuration(bytes: &[u8]) -> Result<Call, Bad>
 }
 
 /// COMMIT (RFC 1813 section 3.3.21).
-#[inline(never)]
 fn commit(bytes: &[u8]) -> Result<Call, Bad>
     ensures { Makes call_of false result (asked_by range_shape commit_call bytes.now) }
 {
@@ -312,7 +289,6 @@ fn commit(bytes: &[u8]) -> Result<Call, Bad>
 }
 
 /// CENSUS of the admin program.
-#[inline(never)]
 fn census(bytes: &[u8]) -> Result<Call, Bad>
     ensures { Makes call_of false result (asked_by Void census_call bytes.now) }
 {
@@ -321,7 +297,6 @@ fn census(bytes: &[u8]) -> Result<Call, Bad>
 }
 
 /// GROW of the admin program.
-#[inline(never)]
 fn grow(bytes: &[u8]) -> Result<Call, Bad>
     ensures { Makes call_of false result (asked_by growing_shape grow_call bytes.now) }
 {
@@ -330,7 +305,6 @@ fn grow(bytes: &[u8]) -> Result<Call, Bad>
 }
 
 /// STOP of the admin program.
-#[inline(never)]
 fn stop(bytes: &[u8]) -> Result<Call, Bad>
     ensures { Makes call_of false result (asked_by Void stop_call bytes.now) }
 {
@@ -339,7 +313,6 @@ fn stop(bytes: &[u8]) -> Result<Call, Bad>
 }
 
 /// MNT of MOUNT (RFC 1813 appendix I, section 5.2.1), of a root or below one.
-#[inline(never)]
 fn mount(alloc: Global, bytes: &[u8]) -> Result<Call, Bad>
     ensures { Makes call_of true result (asked_by path_shape mnt_call bytes.now) }
 {
@@ -349,7 +322,6 @@ fn mount(alloc: Global, bytes: &[u8]) -> Result<Call, Bad>
 }
 
 /// DUMP of MOUNT (RFC 1813 appendix I, section 5.2.2).
-#[inline(never)]
 fn list_mounts(bytes: &[u8]) -> Result<Call, Bad>
     ensures { Makes call_of false result (asked_by Void dump_call bytes.now) }
 {
@@ -358,7 +330,6 @@ fn list_mounts(bytes: &[u8]) -> Result<Call, Bad>
 }
 
 /// UMNT of MOUNT (RFC 1813 appendix I, section 5.2.3).
-#[inline(never)]
 fn unmount(bytes: &[u8]) -> Result<Call, Bad>
     ensures { Makes call_of false result (asked_by path_shape umnt_call bytes.now) }
 {
@@ -367,7 +338,6 @@ fn unmount(bytes: &[u8]) -> Result<Call, Bad>
 }
 
 /// UMNTALL of MOUNT (RFC 1813 appendix I, section 5.2.4).
-#[inline(never)]
 fn unmount_all(bytes: &[u8]) -> Result<Call, Bad>
     ensures { Makes call_of false result (asked_by Void umntall_call bytes.now) }
 {
@@ -376,7 +346,6 @@ fn unmount_all(bytes: &[u8]) -> Result<Call, Bad>
 }
 
 /// EXPORT of MOUNT (RFC 1813 appendix I, section 5.2.5).
-#[inline(never)]
 fn list_exports(bytes: &[u8]) -> Result<Call, Bad>
     ensures { Makes call_of false result (asked_by Void export_call bytes.now) }
 {
