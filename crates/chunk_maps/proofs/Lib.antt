@@ -1,1 +1,2 @@
 pub mod Pages
+pub mod Numbers

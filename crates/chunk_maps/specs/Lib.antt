@@ -1,4 +1,5 @@
 pub mod Chunks
+pub mod Numbers
 pub mod Maps
 pub mod MapLaws
 pub mod SlotLaws

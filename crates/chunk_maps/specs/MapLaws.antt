@@ -7,16 +7,15 @@ use Rattle.std.proofs.Common.{Result, Ok, Err, OnErr}
 use Rattle.std.proofs.lemmas.Bool.{cases_eq}
 use Rattle.std.proofs.lemmas.Bool.Decides.{nat_tests}
 use Rattle.std.specs.Ordering.{nat_cmp}
-use Rattle.std.specs.Cmp.{nat_cmp_total, unsigned_tied}
+use Rattle.std.specs.Cmp.{nat_cmp_total}
 use Rattle.std.specs.FinMap.{FinMap, empty, get, insert, remove, get-empty, len, len-insert, len-remove}
-use Rattle.std.specs.Map.{lookup}
-use Rattle.std.specs.BTreeMap.{is_at}
 use Rattle.nfs_model.specs.volume.Maps.{changed_value, changed_at}
 use Rattle.nfs_model.specs.volume.lemmas.Numbered.{get-insert_at, get-remove_at, get-changed_at, same-answers, insert-removed, removed-absent}
 use Rattle.chunk_maps.specs.SlotLaws.{unlike}
 use Rattle.chunk_maps.specs.declared.chunk_map.ChunkMap.{ChunkMap}
 use Rattle.chunk_maps.specs.Chunks.{page_size, Slots, slot_of, value_on, Sets, SameAt}
-use Rattle.chunk_maps.specs.Maps.{value_in, value_at, with_slot, with_values, values_on, values_of}
+use Rattle.chunk_maps.specs.Numbers.{page_of, value_in}
+use Rattle.chunk_maps.specs.Maps.{value_at, with_slot, with_values, values_on, values_of}
 
 -- whether a number is one of n from a first on
 abbrev is_among : ℕ → ℕ → ℕ → Bool
@@ -32,15 +31,15 @@ is-earlier : (first n q : ℕ) → q ≢ first + n → is_among first (suc n) q 
 is-earlier first n q other = grind (arith, nat_tests, other)
 
 -- those of a page
-all-among : (number q : ℕ) → is_among (page_size * number) page_size q ≡ is_at (nat_cmp (q / page_size)) number
+all-among : (number q : ℕ) → is_among (page_size * number) page_size q ≡ (q / page_size == number)
 all-among number q = elim (cases_eq (q / page_size) number) [
   | inl e ↦
       (let low : page_size * number ≤ q = omega (arith, e) in
       let high : q < page_size * number + page_size = omega (arith, e) in
       let all : is_among (page_size * number) page_size q ≡ true = grind (arith, nat_tests, low, high) in all)
-      ∙ sym (unsigned_tied (q / page_size) number ∙ eq-eqb _ _ e)
+      ∙ sym (eq-eqb _ _ e)
   | inr apart ↦ by (nat_le (page_size * number) q) (nat_lt q (page_size * number + page_size)) refl refl apart
-      ∙ sym (unsigned_tied (q / page_size) number ∙ unlike (q / page_size) number apart)
+      ∙ sym (unlike (q / page_size) number apart)
 ]
   where
     by : (a b : Bool) → nat_le (page_size * number) q ≡ a → nat_lt q (page_size * number + page_size) ≡ b → q / page_size ≢ number → (a && b) ≡ false
@@ -75,24 +74,24 @@ module _ {V : Type 0} where
       ]
 
   get-values_on : (pages : List (ℕ × Vec (Option (Slots V)))) (q : ℕ)
-      → get (values_on pages) q ≡ value_in slot_of (lookup (is_at (nat_cmp (q / page_size))) pages) q
+      → get (values_on pages) q ≡ value_in slot_of (page_of pages (q / page_size)) q
   unfolding values_on
   get-values_on [] q = get-empty nat_cmp q
   get-values_on (page ∷ pages) q =
       get-with_values (value_on slot_of page.1.items) (page_size * page.0) page_size (values_on pages) q
       ∙ ap (λ b. cond b (value_on slot_of page.1.items q) (get (values_on pages) q)) (all-among page.0 q)
-      ∙ by (is_at (nat_cmp (q / page_size)) page.0) (get-values_on pages q)
+      ∙ by (q / page_size == page.0) (get-values_on pages q)
     where
-      by : (b : Bool) → get (values_on pages) q ≡ value_in slot_of (lookup (is_at (nat_cmp (q / page_size))) pages) q
+      by : (b : Bool) → get (values_on pages) q ≡ value_in slot_of (page_of pages (q / page_size)) q
           → cond b (value_on slot_of page.1.items q) (get (values_on pages) q)
-          ≡ value_in slot_of (cond b (Some page.1) (lookup (is_at (nat_cmp (q / page_size))) pages)) q
+          ≡ value_in slot_of (cond b (Some page.1) (page_of pages (q / page_size))) q
       by true rest = refl
       by false rest = rest
 
   -- the value under a fileid
   pub get-values_of : (m : ChunkMap (Slots V)) (q : ℕ) → get (values_of m) q ≡ value_at m q
   unfolding values_of
-  get-values_of m q = get-values_on m.pages.entries q
+  get-values_of m q = get-values_on m.pages q
 
   -- no value
   pub no-values : (m : ChunkMap (Slots V)) → ((q : ℕ) → value_at m q ≡ None) → values_of m ≡ empty

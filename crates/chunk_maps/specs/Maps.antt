@@ -1,20 +1,15 @@
 -- Values by fileid in a map of chunks.
-use Rattle.std.specs.Prelude.{ℕ, zero, suc, ◌+◌, ◌*◌, ◌/◌, List, [], ◌∷◌, Option, Some, None}
+use Rattle.std.specs.Prelude.{ℕ, zero, suc, ◌+◌, ◌*◌, List, [], ◌∷◌, Option, Some, None}
 use Rattle.std.specs.Global.{Vec}
 use Rattle.std.specs.Ordering.{nat_cmp}
-use Rattle.std.specs.BTreeMap as btree
 use Rattle.std.specs.FinMap.{FinMap, empty, insert, remove}
 use Rattle.chunk_maps.specs.declared.chunk_map.ChunkMap.{ChunkMap}
 use Rattle.chunk_maps.specs.Chunks.{page_size, Slots, slot_of, value_on}
-
--- the value of a fileid, where there may be no page
-abbrev pub value_in : {C V : Type 0} → (C → ℕ → Option V) → Option (Vec (Option C)) → ℕ → Option V
-value_in slot None fileid = None
-value_in slot (Some page) fileid = value_on slot page.items fileid
+use Rattle.chunk_maps.specs.Numbers.{value_among}
 
 -- the value of a fileid in a map, by what a chunk has under a fileid
 abbrev pub value_by : {C V : Type 0} → (C → ℕ → Option V) → ChunkMap C → ℕ → Option V
-value_by slot chunks fileid = value_in slot (btree.get nat_cmp chunks.pages (fileid / page_size)) fileid
+value_by slot chunks fileid = value_among slot chunks.pages fileid
 
 abbrev pub value_at : {V : Type 0} → ChunkMap (Slots V) → ℕ → Option V
 value_at chunks fileid = value_by slot_of chunks fileid
@@ -38,4 +33,4 @@ values_on (page ∷ pages) = with_values (value_on slot_of page.1.items) (page_s
 
 -- the values of a map of chunks
 unfoldable pub values_of : {V : Type 0} → ChunkMap (Slots V) → FinMap nat_cmp V
-values_of chunks = values_on chunks.pages.entries
+values_of chunks = values_on chunks.pages

@@ -12,23 +12,22 @@ ghost use Rattle.std.specs.Prelude.{
   OnOk,
   OnErr,
 };
-ghost use Rattle.std.specs.BTreeMap as btree;
 ghost use Rattle.std.specs.Option.{option_map};
-ghost use Rattle.std.specs.Ordering.{nat_cmp};
 ghost use Rattle.chunk_maps.specs.Chunks.{page_chunks, page_size, SameAt, Sets};
+ghost use Rattle.chunk_maps.specs.Numbers.{page_of};
 
 use crate::chunk::{CHUNK_SIZE, Chunk};
-use crate::page::{PAGE_CHUNKS, PAGE_SIZE, Page, change_on, free_on, item_on, put_on, take_on};
+use crate::numbered::NumberedPages;
+use crate::page::{PAGE_CHUNKS, PAGE_SIZE, Page, item_on, put_on};
 use crate::reading::{GROUP, chunks_on, sum_of};
 use std::alloc::{AllocError, Global};
-use std::collections::BTreeMap;
 
 /// A map from fileids to items, in pages of 256 chunks, so that a search reads few keys.
 #[derive(Drop)]
 pub struct ChunkMap<C> {
     alloc: Global,
     /// By the quotient of their fileids and 8,192.
-    pages: BTreeMap<u64, Page<C>>,
+    pages: NumberedPages<C>,
     /// The number of the chunk that is kept though it may be empty.
     kept: u64,
 }
@@ -42,7 +41,7 @@ impl<C: Chunk> ChunkMap<C> {
     {
         ChunkMap {
             alloc,
-            pages: BTreeMap::new(alloc),
+            pages: NumberedPages::new(alloc),
             kept: 0,
         }
     }
@@ -51,7 +50,7 @@ impl<C: Chunk> ChunkMap<C> {
     pub fn get(&self, fileid: u64) -> Option<C::Item>
         ensures { option_map C.value result ≡ value_by C.values self.now fileid }
     {
-        match self.pages.get(&(fileid / PAGE_SIZE)) {
+        match self.pages.get(fileid / PAGE_SIZE) {
             Some(page) => item_on(page, fileid),
             None => None,
         }
@@ -71,7 +70,7 @@ impl<C: Chunk> ChunkMap<C> {
     fn pages_of(&self, fileids: &[u64; GROUP]) -> [Option<&Page<C>>; GROUP] {
         let mut pages = [None; GROUP];
         for at in 0..GROUP {
-            pages[at] = self.pages.get(&(fileids[at] / PAGE_SIZE));
+            pages[at] = self.pages.get(fileids[at] / PAGE_SIZE);
         }
         pages
     }
@@ -85,15 +84,15 @@ impl<C: Chunk> ChunkMap<C> {
         ensures succeeds { IsSome (value_by C.values self.old fileid) → IsOk result }
     {
         let alloc = self.alloc;
-        match self.pages.get_mut(&(fileid / PAGE_SIZE)) {
-            Some(page) => put_on(page, alloc, fileid, item),
-            None => self.add_page(fileid, item),
+        match self.pages.place(fileid / PAGE_SIZE) {
+            Ok(place) => self.pages.put(place, alloc, fileid, item),
+            Err(_) => self.add_page(fileid, item),
         }
     }
 
     /// Adds a page with one item.
     fn add_page(&mut self, fileid: u64, item: C::Item) -> Result<(), AllocError>
-        requires { btree.get nat_cmp self.old.pages (fileid / page_size) ≡ None }
+        requires { page_of self.old.pages (fileid / page_size) ≡ None }
         ensures ok { OnOk result (Sets fileid (Some (C.value item))
             (value_by C.values self.old) (value_by C.values self.new)) }
         ensures err { OnErr result
@@ -118,9 +117,9 @@ impl<C: Chunk> ChunkMap<C> {
             → Sets fileid (option_map g (value_by C.values self.old fileid))
             (value_by C.values self.old) (value_by C.values self.new) }
     {
-        match self.pages.get_mut(&(fileid / PAGE_SIZE)) {
-            Some(page) => change_on(page, fileid, change),
-            None => None,
+        match self.pages.place(fileid / PAGE_SIZE) {
+            Ok(place) => self.pages.change(place, fileid, change),
+            Err(_) => None,
         }
     }
 
@@ -144,9 +143,9 @@ impl<C: Chunk> ChunkMap<C> {
         ensures gone { Sets fileid None
             (value_by C.values self.old) (value_by C.values self.new) }
     {
-        match self.pages.get_mut(&(fileid / PAGE_SIZE)) {
-            Some(page) => take_on(page, fileid),
-            None => (None, false),
+        match self.pages.place(fileid / PAGE_SIZE) {
+            Ok(place) => self.pages.take(place, fileid),
+            Err(_) => (None, false),
         }
     }
 
@@ -166,7 +165,7 @@ impl<C: Chunk> ChunkMap<C> {
         ensures { SameAt (value_by C.values self.old) (value_by C.values self.new) }
     {
         if self.free_chunk(number) {
-            self.pages.remove(&(number / PAGE_CHUNKS));
+            self.pages.remove(number / PAGE_CHUNKS);
         }
     }
 
@@ -177,9 +176,9 @@ impl<C: Chunk> ChunkMap<C> {
         ensures none { IsTrue result → (fileid : ℕ) → fileid / page_size ≡ number / page_chunks
             → value_by C.values self.new fileid ≡ None }
     {
-        match self.pages.get_mut(&(number / PAGE_CHUNKS)) {
-            Some(page) => free_on(page, (number % PAGE_CHUNKS) as usize),
-            None => false,
+        match self.pages.place(number / PAGE_CHUNKS) {
+            Ok(place) => self.pages.free(place, number),
+            Err(_) => false,
         }
     }
 }

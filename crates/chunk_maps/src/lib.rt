@@ -3,6 +3,7 @@
 
 mod chunk;
 mod chunk_map;
+mod numbered;
 mod page;
 mod reading;
 
