@@ -125,8 +125,8 @@ fn hear_request(request: &mut Request, form: HandleForm)
 
 /// What was read, with the handles heard.
 fn with_handles(read: Result<Heard, RecordFault>, offer: Offer) -> Result<Heard, RecordFault>
-    ensures { (record : List ℕ) → Hears read (heard_from Plain (head_by offer record))
-        → Hears result (heard_by offer record) }
+    ensures { (bytes : List ℕ) → Hears read (heard_from Plain (head_by offer bytes))
+        → Hears result (heard_by offer bytes) }
 {
     let mut read = read;
     if let Ok(heard) = &mut read {

@@ -68,9 +68,9 @@ fn give_read<S: RecordSink>(
     requires room { S.room sink.old ≡ true }
     requires few { stream.old.records < most_records }
     requires layout { S.layout sink.old ≡ layout_of layout.now }
-    ensures given { (offer : Offer) (record : List ℕ) → Hears read (heard_by offer record)
+    ensures given { (offer : Offer) (bytes : List ℕ) → Hears read (heard_by offer bytes)
         → HasGivenRecord S.came (layout_of layout.now) stream.old sink.old
-        (heard offer record) result stream.new sink.new }
+        (heard offer bytes) result stream.new sink.new }
     ensures layout { S.layout sink.new ≡ S.layout sink.old }
 {
     match read {
