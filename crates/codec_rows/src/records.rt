@@ -199,12 +199,7 @@ fn frames_a_record(rt: HostRuntime) {
 /// What has come, and which record the bytes behind it begin with as one fragment.
 const WHOLE: [(&str, &[u8], &[u8], Option<&[u8]>); 10] = [
     ("a call", &[], &FRAMED, Some(&NULL_CALL)),
-    (
-        "bytes behind it",
-        &[],
-        &[0x80, 0, 0, 1, 7, 9],
-        Some(&[7]),
-    ),
+    ("bytes behind it", &[], &[0x80, 0, 0, 1, 7, 9], Some(&[7])),
     ("an empty record", &[], &[0x80, 0, 0, 0], Some(&[])),
     (
         "behind a record",

@@ -32,10 +32,13 @@ begins-with (a ∷ b ∷ c ∷ d ∷ rest) number size h fits is marked size_is 
     let len : length part ≡ size = omega (arith, length-take size rest) in
     let number_is : length part + last_bit ≡ number = omega (arith, len) in
     let spelled : to_be_bytes w32 (length part + last_bit) ≡ a ∷ b ∷ c ∷ d ∷ [] =
-        ap (to_be_bytes w32) number_is ∙ be_bytes_4 (a ∷ b ∷ c ∷ d ∷ []) number refl (four_fit a b c d rest fits) is in
-    (omega (arith, len),
-    (drop size rest,
-    sym (ap (λ (h : List ℕ). (h ++ part) ++ drop size rest) spelled ∙ ap (λ (xs : List ℕ). a ∷ b ∷ c ∷ d ∷ xs) (take-append-drop size rest))))
+    ap (to_be_bytes w32) number_is ∙ be_bytes_4 (a ∷ b ∷ c ∷ d ∷ []) number refl (four_fit a b c d rest fits) is in (
+      omega (arith, len),
+      (
+        drop size rest,
+        sym (ap (λ (h : List ℕ). (h ++ part) ++ drop size rest) spelled ∙ ap (λ (xs : List ℕ). a ∷ b ∷ c ∷ d ∷ xs) (take-append-drop size rest)),
+      ),
+    )
 
 -- where no fault was told and nothing has come since the last record
 pub at-start : (failed : Bool) (joined : List ℕ) (position : Position) (now : Option State) → failed ≡ false → length joined ≡ 0
@@ -49,9 +52,9 @@ whole_read : (stream bytes made : List ℕ) (now : Option State) → now ≡ Som
     → read_stream (stream ++ take (4 + length made) bytes) ≡ record { records = (read_stream stream).records ++ made ∷ []; at = now }
 whole_read stream bytes made now is begins at =
     let scanned : scan 0 start bytes ≡ Made (4 + length made) made =
-        ap (scan 0 start) begins.1.1
-        ∙ found made (fragment true made) begins.1.0 (record { parts = []; last = made; joined = refl; small = begins.0; bytes_are = refl })
-        ∙ ap (λ (n : ℕ). Made n made) (omega arith) in
+    ap (scan 0 start) begins.1.1
+    ∙ found made (fragment true made) begins.1.0 (record { parts = []; last = made; joined = refl; small = begins.0; bytes_are = refl })
+    ∙ ap (λ (n : ℕ). Made n made) (omega arith) in
     (made_read stream bytes made start (4 + length made) (at ∙ is) scanned).2
     ∙ ap (λ (o : Option State). record { records = (read_stream stream).records ++ made ∷ []; at = o }) (sym is)
 

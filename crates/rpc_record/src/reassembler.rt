@@ -139,8 +139,10 @@ impl Reassembler {
         ensures reads { IfSome result (λ made. (stream : List ℕ)
             → (read_stream stream).at ≡ self.now
             → read_stream (stream ++ take (4 + length made.now) bytes.now)
-            ≡ record { records = (read_stream stream).records ++ made.now ∷ [];
-                at = self.now }) }
+            ≡ record {
+              records = (read_stream stream).records ++ made.now ∷ [];
+              at = self.now;
+            }) }
     {
         if self.failed || !self.joined.is_empty() || !self.position.is_start() {
             return None;

@@ -8,6 +8,6 @@ returns-clause-reads c =
     let inside = c.self.inside in
     let none : length inside.joined.items ≡ 0 = search rules in
     let here : c.args.self.now ≡ Some start =
-        at-start inside.failed inside.joined.items inside.position c.args.self.now c.if-self.false none
-        ((c.is_start.ensures inside.joined.items).0 c.if-not-is_start.false) c.self.view_is in
+    at-start inside.failed inside.joined.items inside.position c.args.self.now c.if-self.false none
+    ((c.is_start.ensures inside.joined.items).0 c.if-not-is_start.false) c.self.view_is in
     reads-whole c.first_record.result c.args.bytes.now c.args.self.now here c.first_record.ensures.begins
