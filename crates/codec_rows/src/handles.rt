@@ -2,7 +2,10 @@
 
 use crate::bytes::{holds, is_handle, spelled, spells};
 use nfs_values::{Answer, Call, FileHandle, Fileid, MountResults, Named, Reply, VolumeNumber};
-use rpc_msg::{HandleForm, Offer, Request, read_record_of, tell, write_reply_record};
+use rpc_msg::{
+    HandleForm, Heard, Offer, RecordFault, Request, read_record_at, read_record_of, tell,
+    write_reply_record,
+};
 use std::mem;
 use std::process::Abort;
 
@@ -42,10 +45,9 @@ const PLAIN: [(&str, &[u32], &[u8]); 2] = [
 /// A GETATTR call of NFS, as far as its handle.
 const GETATTR: [u32; 10] = [9, 0, 2, 0x000186a3, 3, 1, 0, 0, 0, 0];
 
-/// Whether of the handle in a GETATTR that is heard by an offer the server has these bytes.
-fn hears(rt: &(impl Abort + AllocGlobal), offer: Offer, handle: &[u32], wanted: &[u8]) -> bool {
-    let heard = read_record_of(rt.alloc(), spelled(rt, &[&GETATTR, handle]), offer).ok();
-    let heard = heard.expect(rt, "a fault");
+/// Whether of the handle in a GETATTR the server has these bytes.
+fn has(rt: &impl Abort, heard: Result<Heard, RecordFault>, wanted: &[u8]) -> bool {
+    let heard = heard.ok().expect(rt, "a fault");
     let is_had = match &heard.request {
         Request::Call {
             call: Call::GetAttributes { handle },
@@ -55,6 +57,14 @@ fn hears(rt: &(impl Abort + AllocGlobal), offer: Offer, handle: &[u32], wanted: 
     };
     mem::forget(heard);
     is_had
+}
+
+/// Whether it has them of a GETATTR that is heard by an offer, where its record lies and out of it.
+fn hears(rt: &(impl Abort + AllocGlobal), offer: Offer, handle: &[u32], wanted: &[u8]) -> bool {
+    let record = spelled(rt, &[&GETATTR, handle]);
+    let lies = has(rt, read_record_at(rt.alloc(), &record, offer), wanted);
+    let moved = has(rt, read_record_of(rt.alloc(), record, offer), wanted);
+    lies && moved
 }
 
 #[test]

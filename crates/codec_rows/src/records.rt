@@ -1,6 +1,6 @@
 //! Records out of a stream, and a record's frame.
 
-use crate::bytes::{holds, same};
+use crate::bytes::{are_equal, holds, same};
 use nfs_values::Refusal;
 use rpc_msg::{RecordFault, Request, read_record};
 use rpc_record::{Look, Reassembler, Step, frame, put_header};
@@ -194,4 +194,61 @@ fn frames_a_record(rt: HostRuntime) {
     put_header(&mut out, 40).expect(&rt, "no memory");
     same(&rt, "header", &out, &[0x80, 0, 0, 0x28]);
     mem::forget((framed, out));
+}
+
+/// What has come, and which record the bytes behind it begin with as one fragment.
+const WHOLE: [(&str, &[u8], &[u8], Option<&[u8]>); 10] = [
+    ("a call", &[], &FRAMED, Some(&NULL_CALL)),
+    ("bytes behind it", &[], &[0x80, 0, 0, 1, 7, 9], Some(&[7])),
+    ("an empty record", &[], &[0x80, 0, 0, 0], Some(&[])),
+    (
+        "behind a record",
+        &[0x80, 0, 0, 1, 7],
+        &[0x80, 0, 0, 1, 8],
+        Some(&[8]),
+    ),
+    ("a byte is missing", &[], &[0x80, 0, 0, 2, 7], None),
+    ("a part of a header", &[], &[0x80, 0, 0], None),
+    ("another fragment follows", &[], &[0, 0, 0, 1, 7], None),
+    (
+        "a header has begun",
+        &[0x80, 0, 0],
+        &[0x80, 0, 0, 1, 7],
+        None,
+    ),
+    (
+        "a record has begun",
+        &[0, 0, 0, 1, 7],
+        &[0x80, 0, 0, 1, 8],
+        None,
+    ),
+    ("there was a fault", &[0xff; 4], &[0x80, 0, 0, 1, 7], None),
+];
+
+/// Whether bytes behind what has come begin with this record.
+fn begins(
+    rt: &(impl Abort + AllocGlobal),
+    before: &[u8],
+    bytes: &[u8],
+    wanted: Option<&[u8]>,
+) -> bool {
+    let mut reassembler = Reassembler::new(rt.alloc());
+    let (_taken, step) = fed(rt, &mut reassembler, before);
+    mem::forget(step);
+    let is_so = match reassembler.whole(bytes) {
+        Some(record) => match wanted {
+            Some(wanted) => are_equal(record, wanted),
+            None => false,
+        },
+        None => wanted.is_none(),
+    };
+    mem::forget(reassembler);
+    is_so
+}
+
+#[test]
+fn tells_a_record_where_it_lies(rt: HostRuntime) {
+    for (row, before, bytes, wanted) in &WHOLE {
+        holds(&rt, row, begins(&rt, before, bytes, *wanted));
+    }
 }

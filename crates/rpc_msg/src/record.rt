@@ -1,8 +1,11 @@
 //! What records ask.
 
-ghost use Rattle.std.specs.Prelude.{◌≤◌, ℕ, Result, length, drop};
+ghost use Rattle.std.specs.Prelude.{ℕ, List, Result};
 ghost use Rattle.nfs_model.specs.World as World;
+ghost use Rattle.nfs_values.specs.Call.{call_of};
 ghost use Rattle.nfs_values.specs.Credential.{credential_of};
+ghost use Rattle.nfs_values.specs.declared.procedure.Procedure.{Procedure};
+ghost use Rattle.nfs_types.specs.Arguments.{Makes, asked, takes_memory};
 ghost use Rattle.rpc_msg.specs.declared.handle_form.HandleForm.TheVariants.{Plain};
 ghost use Rattle.rpc_msg.specs.Heads.{head_by, Call as Asks};
 ghost use Rattle.rpc_msg.specs.Records.{heard, heard_by, heard_from, told_heard};
@@ -13,8 +16,8 @@ use crate::handle_form::HandleForm;
 use crate::handles::hear;
 use crate::head::{Head, read_call_of};
 use crate::offer::Offer;
-use nfs_types::{Bad, decode_in_place};
-use nfs_values::{Call, Caller, Credential, PeerAddress, Procedure, Refusal};
+use nfs_types::{Bad, decode_call, decode_in_place};
+use nfs_values::{Call, Caller, Credential, PeerAddress, Refusal};
 use std::alloc::Global;
 
 /// What a record asks.
@@ -34,20 +37,14 @@ pub struct Heard {
     pub request: Request,
 }
 
-/// What a call of a procedure asks, whose arguments are the bytes of its record from one on.
-fn decode(
-    alloc: Global,
-    xid: u32,
-    procedure: Procedure,
-    credential: Credential,
-    record: Vec<u8>,
-    from: usize,
-) -> Request
-    requires { from ≤ length record.items }
-    ensures { let arguments = drop from record.items in Tells xid result
+/// What a call asks whose arguments were decoded so.
+fn request_of(xid: u32, credential: Credential, decoded: Result<Call, Bad>) -> Request
+    ensures { (procedure : Procedure) (arguments : List ℕ)
+        → Makes call_of (takes_memory procedure) decoded (asked procedure arguments)
+        → Tells xid result
         (heard_from Plain (Asks xid procedure (credential_of credential) arguments)) }
 {
-    match decode_in_place(alloc, procedure, record, from) {
+    match decoded {
         Ok(call) => Request::Call {
             call,
             caller: Caller {
@@ -63,7 +60,7 @@ fn decode(
     }
 }
 
-/// Reads a whole record, with its handles as they came.
+/// Reads a whole record, with its handles as they came. The data of a WRITE stay in it.
 fn read_spelled(alloc: Global, record: Vec<u8>, offer: Offer) -> Result<Heard, RecordFault>
     ensures { Hears result (heard_from Plain (head_by offer record.items)) }
 {
@@ -75,9 +72,35 @@ fn read_spelled(alloc: Global, record: Vec<u8>, offer: Offer) -> Result<Heard, R
             arguments,
         } => {
             let from = record.len() - arguments.len();
+            let decoded = decode_in_place(alloc, procedure, record, from);
             Ok(Heard {
                 xid,
-                request: decode(alloc, xid, procedure, credential, record, from),
+                request: request_of(xid, credential, decoded),
+            })
+        }
+        Head::Refuse { xid, reply } => Ok(Heard {
+            xid,
+            request: Request::Refused(reply),
+        }),
+        Head::Fault(fault) => Err(fault),
+    }
+}
+
+/// Reads a whole record where it lies, with its handles as they came.
+fn read_spelled_at(alloc: Global, record: &[u8], offer: Offer) -> Result<Heard, RecordFault>
+    ensures { Hears result (heard_from Plain (head_by offer record.now)) }
+{
+    match read_call_of(record, offer) {
+        Head::Call {
+            xid,
+            procedure,
+            credential,
+            arguments,
+        } => {
+            let decoded = decode_call(alloc, procedure, arguments);
+            Ok(Heard {
+                xid,
+                request: request_of(xid, credential, decoded),
             })
         }
         Head::Refuse { xid, reply } => Ok(Heard {
@@ -100,16 +123,32 @@ fn hear_request(request: &mut Request, form: HandleForm)
     }
 }
 
+/// What was read, with the handles heard.
+fn with_handles(read: Result<Heard, RecordFault>, offer: Offer) -> Result<Heard, RecordFault>
+    ensures { (bytes : List ℕ) → Hears read (heard_from Plain (head_by offer bytes))
+        → Hears result (heard_by offer bytes) }
+{
+    let mut read = read;
+    if let Ok(heard) = &mut read {
+        hear_request(&mut heard.request, offer.handles());
+    }
+    read
+}
+
 /// Reads a whole record (RFC 5531 section 9). Only names take memory: the data of a WRITE stay in
 /// the record.
 pub fn read_record_of(alloc: Global, record: Vec<u8>, offer: Offer) -> Result<Heard, RecordFault>
     ensures { Hears result (heard_by offer record.items) }
 {
-    let mut read = read_spelled(alloc, record, offer);
-    if let Ok(heard) = &mut read {
-        hear_request(&mut heard.request, offer.handles());
-    }
-    read
+    with_handles(read_spelled(alloc, record, offer), offer)
+}
+
+/// Reads a whole record where it lies (RFC 5531 section 9). Names and the data of a WRITE take
+/// memory.
+pub fn read_record_at(alloc: Global, record: &[u8], offer: Offer) -> Result<Heard, RecordFault>
+    ensures { Hears result (heard_by offer record.now) }
+{
+    with_handles(read_spelled_at(alloc, record, offer), offer)
 }
 
 /// Reads a whole record by the basic offer.

@@ -9,3 +9,4 @@ pub mod Came
 pub mod Feeding
 pub mod Unique
 mod Walks
+pub mod Whole

@@ -33,6 +33,10 @@ pub record IsRecord (made bytes : List ℕ) : Type 0 where
   pub small : length made ≤ limit
   pub bytes_are : bytes ≡ front parts ++ fragment true last
 
+-- the bytes begin with the record as one fragment
+abbrev pub BeginsWith : List ℕ → List ℕ → Type 0
+BeginsWith made bytes = (length made ≤ limit) × ((rest : List ℕ) × (bytes ≡ fragment true made ++ rest))
+
 -- no beginning of the bytes spells a record
 abbrev pub HasNoRecord : List ℕ → Type 0
 HasNoRecord bytes = (made spelled after : List ℕ) → bytes ≡ spelled ++ after → IsRecord made spelled → ⊥

@@ -1,8 +1,8 @@
 ghost use Rattle.std.specs.Prelude.{◌≡◌, true, ◌+◌, ◌≤◌, ◌++◌, length, vec_len, vec_capacity, IfOk};
-ghost use Rattle.std.specs.Prelude.{IsOk, OnOk, OnErr};
-ghost use Rattle.rpc_record.specs.Records.{limit, header, fragment, IsRecord};
+ghost use Rattle.std.specs.Prelude.{IsOk, OnOk, OnErr, List, ℕ, None, IfSome};
+ghost use Rattle.rpc_record.specs.Records.{limit, header, fragment, BeginsWith, IsRecord};
 
-use crate::position::LAST_FRAGMENT;
+use crate::position::{LAST_FRAGMENT, RECORD_LIMIT};
 use byteorder::{BigEndian, ByteOrder};
 use std::alloc::{AllocError, Global};
 
@@ -30,4 +30,23 @@ pub fn frame(alloc: Global, bytes: &[u8]) -> Result<Vec<u8>, AllocError>
     put_header(&mut framed, bytes.len() as u32)?;
     framed.extend_from_slice(bytes)?;
     Ok(framed)
+}
+
+/// The record that bytes begin with as one fragment, none of whose bytes is missing.
+pub(crate) fn first_record(bytes: &[u8]) -> Option<&[u8]>
+    ensures begins { IfSome result (λ made. BeginsWith made.now bytes.now) }
+    ensures none { result ≡ None → (made : List ℕ) → BeginsWith made bytes.now → ⊥ }
+{
+    if bytes.len() < 4 {
+        return None;
+    }
+    let number = u32::from_be_bytes([bytes[0], bytes[1], bytes[2], bytes[3]]);
+    if number < LAST_FRAGMENT {
+        return None;
+    }
+    let size = (number - LAST_FRAGMENT) as usize;
+    if RECORD_LIMIT < size || bytes.len() - 4 < size {
+        return None;
+    }
+    Some(&bytes[4..4 + size])
 }

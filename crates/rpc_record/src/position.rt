@@ -1,5 +1,5 @@
-ghost use Rattle.std.specs.Prelude.{◌≡◌, ◌+◌, ◌-◌, ◌<◌, ◌≤◌, List, ℕ, length};
-ghost use Rattle.rpc_record.specs.Machine.{scan, after, after_fragment, after_header};
+ghost use Rattle.std.specs.Prelude.{◌≡◌, ◌↔◌, ◌+◌, ◌-◌, ◌<◌, ◌≤◌, [], List, ℕ, length, true};
+ghost use Rattle.rpc_record.specs.Machine.{InHeader, scan, after, after_fragment, after_header};
 ghost use Rattle.rpc_record.specs.Position.{state, next_of, IsPosition, Turns, joined_by};
 ghost use Rattle.rpc_record.specs.Position.{after_data};
 ghost use Rattle.rpc_record.specs.Position.{walk_to};
@@ -47,6 +47,14 @@ impl Position {
         left: 0,
         last: false,
     };
+
+    /// Whether it is before a header's first byte.
+    pub(crate) fn is_start(self) -> bool
+        requires { IsPosition self }
+        ensures { (joined : List ℕ) → result ≡ true ↔ state joined self ≡ InHeader joined [] }
+    {
+        self.left == 0 && self.count == 0
+    }
 
     /// A fragment's end.
     fn end_fragment(&mut self, last: bool) -> Turn

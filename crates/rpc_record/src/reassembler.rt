@@ -1,12 +1,14 @@
 ghost use Rattle.std.specs.Prelude.{◌≡◌, ◌≤◌, ◌<◌, ◌++◌, List, ℕ, length, take, Option, Some, None};
-ghost use Rattle.std.specs.Prelude.{IsSome};
+ghost use Rattle.std.specs.Prelude.{IsSome, IfSome, ◌+◌, ◌∷◌, []};
 ghost use Rattle.rpc_record.specs.Machine.{State, start, outcome, IsMore};
 ghost use Rattle.rpc_record.specs.Stream.{read_stream};
+ghost use Rattle.rpc_record.specs.Records.{BeginsWith};
 ghost use Rattle.rpc_record.specs.Feeds.{Feeds, GoesOn, Foresees, HasCome, Says, GivesNothing};
 ghost use Rattle.rpc_record.specs.Feeds.{given, look_at, Tells, step_number, look_number};
 ghost use Rattle.rpc_record.specs.declared.reassembler.Step.{Step};
 ghost use Rattle.rpc_record.specs.declared.reassembler.Step.TheVariants as steps;
 
+use crate::framing::first_record;
 use crate::join::join;
 use crate::position::{Position, Turn};
 use std::alloc::Global;
@@ -122,6 +124,30 @@ impl Reassembler {
             return (0, Step::Fault);
         }
         self.advance(bytes)
+    }
+
+    /// The record that bytes begin with as one fragment, where nothing has come since the last
+    /// record: what `feed` would answer to them, of which it would take 4 bytes more. It lies where
+    /// it is, and takes no memory. `None` of all other bytes.
+    pub fn whole<'a>(&self, bytes: &'a [u8]) -> Option<&'a [u8]>
+        ensures begins { IfSome result (λ made. (self.now ≡ Some start)
+            × BeginsWith made.now bytes.now) }
+        ensures none { result ≡ None → self.now ≡ Some start
+            → (made : List ℕ) → BeginsWith made bytes.now → ⊥ }
+
+        // Of a whole stream that the caller keeps.
+        ensures reads { IfSome result (λ made. (stream : List ℕ)
+            → (read_stream stream).at ≡ self.now
+            → read_stream (stream ++ take (4 + length made.now) bytes.now)
+            ≡ record {
+              records = (read_stream stream).records ++ made.now ∷ [];
+              at = self.now;
+            }) }
+    {
+        if self.failed || !self.joined.is_empty() || !self.position.is_start() {
+            return None;
+        }
+        first_record(bytes)
     }
 
     /// Feeds bytes where no fault was told.

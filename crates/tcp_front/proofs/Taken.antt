@@ -1,12 +1,14 @@
 -- Records that are given on, part after part.
-use Rattle.std.proofs.Common.{◌≡◌, ◌<◌, ◌+◌, ◌-◌, ℕ, List, [], ◌∷◌, ◌++◌, length, length-append, length-drop, take, drop}
+use Rattle.std.proofs.Common.{◌≡◌, ◌<◌, ◌≤◌, ◌+◌, true, ◌-◌, ℕ, List, [], ◌∷◌, ◌++◌, length, length-append, length-drop, take, drop}
 use Rattle.std.proofs.Common.{Option, Some, None, Result, Ok, Err, refl, sym, ap, subst, ◌∙◌, take-append-drop, arith}
 use Rattle.std.proofs.lemmas.List.{take_all}
 use Rattle.std.proofs.Math.Seq.{take-add}
-use Rattle.rpc_record.specs.Machine.{State}
+use Rattle.rpc_record.specs.Machine.{State, start}
+use Rattle.rpc_record.specs.Records.{BeginsWith, fragment, header}
 use Rattle.nfs_model.specs.Tree.{Layout}
 use Rattle.nfs_model.specs.World.{Heard}
 use Rattle.rpc_msg.specs.declared.offer.Offer.{Offer}
+use Rattle.engine_feed.specs.Codec.{heard}
 use Rattle.tcp_front.specs.declared.peer.Peer.{Peer}
 use Rattle.tcp_front.specs.declared.stream.Stream.{Stream}
 use Rattle.tcp_front.specs.declared.stream.Stopped.{Stopped}
@@ -15,7 +17,7 @@ use Rattle.tcp_front.specs.declared.next_record.Next.TheVariants as nexts
 use Rattle.tcp_front.specs.Arrivals.{Arrival, arrivals, arrival_of, most_records}
 use Rattle.tcp_front.specs.Peers.{Sender, sender_of}
 use Rattle.tcp_front.specs.Steps.{Adds, Brings, BringsRecord, Comes, HasGiven, HasGivenRecord, HasTaken, IsSameLine, StopsAs}
-use Rattle.tcp_front.proofs.Adding.{adds-more, adds-nothing, brings-first, brings-longer, brings-more, first-longer, first-more}
+use Rattle.tcp_front.proofs.Adding.{Reads, adds-more, adds-nothing, brings-first, brings-longer, brings-more, comes-record, first-longer, first-more}
 
 -- ---- what records come to, one after another
 
@@ -178,7 +180,22 @@ module _ {S : Type 0} (came : S → List Arrival → S → Type 0) (layout : Lay
   taken-whole s t s' sink sink' bytes (Err n) (Some stops.NoMemory) brings c r g = absurd g.0
   taken-whole s t s' sink sink' bytes (Err n) (Some stops.NumbersUsed) brings c r g = absurd g.0
 
+  -- a whole record that lay in the bytes
+  pub taken-there : (s s' : Stream) (sink sink' : S) (bytes made : List ℕ) (stopped : Option Stopped)
+      → Reads s.reassembler bytes (made ∷ []) s.reassembler → s.reassembler ≡ Some start
+      → HasGivenRecord came layout s sink (heard offer made) stopped s' sink' → HasTaken came layout offer s sink bytes stopped s' sink'
+  taken-there s s' sink sink' bytes made stopped reads is g =
+      taken-whole s s s' sink sink' bytes (heard offer made) stopped
+      (comes-record offer s.reassembler s.reassembler bytes made reads is (heard offer made) refl) (refl, refl) refl g
+
 -- ---- bytes of a slice
+
+-- a record that they begin with, and its header
+pub record-within : (made bytes : List ℕ) → BeginsWith made bytes → 4 + length made ≤ length bytes
+record-within made bytes begins =
+    let size : length bytes ≡ length (fragment true made ++ begins.1.0) = ap (λ (l : List ℕ). length l) begins.1.1 in
+    let parts : length (fragment true made) ≡ 4 + length made = length-append (header true (length made)) made in
+    omega (arith, size, parts, length-append (fragment true made) begins.1.0)
 
 rest-is : (xs : List ℕ) (m : ℕ) → take (length xs - m) (drop m xs) ≡ drop m xs
 rest-is xs m = take_all (length xs - m) (drop m xs) (omega (arith, length-drop m xs))

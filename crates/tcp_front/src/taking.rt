@@ -1,6 +1,9 @@
 //! Bytes whose records are given on.
 
-ghost use Rattle.std.specs.Prelude.{◌≡◌, ◌<◌, ◌≤◌, None, true, false, length, take};
+ghost use Rattle.std.specs.Prelude.{◌≡◌, ◌<◌, ◌≤◌, ℕ, List, None, true, false, length, take};
+ghost use Rattle.rpc_msg.specs.declared.offer.Offer.{Offer};
+ghost use Rattle.rpc_msg.specs.Records.{heard_by};
+ghost use Rattle.rpc_msg.specs.Seen.{Hears};
 ghost use Rattle.affinity.specs.Layout.{layout_of};
 ghost use Rattle.tcp_front.specs.Arrivals.{most_records};
 ghost use Rattle.engine_feed.specs.Codec.{heard};
@@ -13,7 +16,7 @@ use crate::sink::RecordSink;
 use crate::stream::{MOST_RECORDS, Stopped, Stream};
 use affinity::Layout;
 use engine_feed::stream_fault;
-use rpc_msg::{Heard, Offer, Request, read_record_of};
+use rpc_msg::{Heard, Offer, RecordFault, Request, read_record_at, read_record_of};
 use scheduler::Origin;
 
 /// Gives on a record under the next number.
@@ -55,22 +58,22 @@ fn give_next<S: RecordSink>(
     }
 }
 
-/// Reads a whole record by what is offered, and gives it on under the next number.
-fn give_record<S: RecordSink>(
+/// Gives on what was read of a record under the next number, where it is no fault.
+fn give_read<S: RecordSink>(
     stream: &mut Stream,
     sink: &mut S,
     layout: &Layout,
-    offer: Offer,
-    record: Vec<u8>,
+    read: Result<Heard, RecordFault>,
 ) -> Option<Stopped>
     requires room { S.room sink.old ≡ true }
     requires few { stream.old.records < most_records }
     requires layout { S.layout sink.old ≡ layout_of layout.now }
-    ensures given { HasGivenRecord S.came (layout_of layout.now) stream.old sink.old
-        (heard offer record.items) result stream.new sink.new }
+    ensures given { (offer : Offer) (bytes : List ℕ) → Hears read (heard_by offer bytes)
+        → HasGivenRecord S.came (layout_of layout.now) stream.old sink.old
+        (heard offer bytes) result stream.new sink.new }
     ensures layout { S.layout sink.new ≡ S.layout sink.old }
 {
-    match read_record_of(stream.alloc, record, offer) {
+    match read {
         Ok(heard) => match &heard.request {
             Request::Call { .. } => give_next(stream, sink, layout, heard),
             Request::Refused(_) => give_next(stream, sink, layout, heard),
@@ -97,10 +100,17 @@ fn take_record<S: RecordSink>(
         (take result.0 bytes.now) result.1 stream.new sink.new }
     ensures layout { S.layout sink.new ≡ S.layout sink.old }
 {
+    if let Some(record) = stream.reassembler.whole(bytes) {
+        let read = read_record_at(stream.alloc, record, offer);
+        return (4 + record.len(), give_read(stream, sink, layout, read));
+    }
     let (taken, next) = next_record(&mut stream.reassembler, bytes);
     match next {
         Next::More => (taken, None),
-        Next::Record(record) => (taken, give_record(stream, sink, layout, offer, record)),
+        Next::Record(record) => {
+            let read = read_record_of(stream.alloc, record, offer);
+            (taken, give_read(stream, sink, layout, read))
+        }
         Next::Stopped(stopped) => (taken, Some(stopped)),
     }
 }

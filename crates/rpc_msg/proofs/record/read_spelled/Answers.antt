@@ -1,8 +1,10 @@
 use Rattle.std.proofs.Common.{ℕ, ◌-◌, List, sym, subst, ap, ◌∙◌, arith}
+use Rattle.nfs_types.specs.Arguments.{Makes, asked, takes_memory}
 use Rattle.nfs_types.specs.lemmas.Bytes.{are_bytes}
+use Rattle.nfs_values.specs.Call.{call_of}
 use Rattle.nfs_values.specs.Credential.{credential_of}
 use Rattle.rpc_msg.specs.declared.handle_form.HandleForm.TheVariants.{Plain}
-use Rattle.rpc_msg.specs.Heads.{Head, Call, head_by}
+use Rattle.rpc_msg.specs.Heads.{Head, head_by}
 use Rattle.rpc_msg.specs.Records.{heard_from}
 use Rattle.rpc_msg.specs.Seen.{Tells, head_seen}
 use Rattle.rpc_msg.proofs.InPlace.{arguments-end}
@@ -24,5 +26,7 @@ returns-in-Call c =
     let says = ap (head_by c.args.offer) (sym c.deref.ensures.value) ∙ sym c.read_call_of.ensures ∙ ap head_seen k.is in
     let end = arguments-end c.args.offer bytes k.xid k.procedure who k.arguments.now c.len.result (are_bytes bytes (λ i lt. omega (arith, lt))) says
     (c.len.ensures ∙ c.args.record.ok.0) in
-    subst (λ (h : Head). Tells k.xid c.decode.result (heard_from Plain h)) (sym says)
-    (subst (λ (l : List ℕ). Tells k.xid c.decode.result (heard_from Plain (Call k.xid k.procedure who l))) end.there c.decode.ensures)
+    subst (λ (h : Head). Tells k.xid c.request_of.result (heard_from Plain h)) (sym says)
+    (c.request_of.ensures k.procedure k.arguments.now
+    (subst (λ (l : List ℕ). Makes call_of (takes_memory k.procedure) c.decode_in_place-decoded.result (asked k.procedure l)) end.there
+    c.decode_in_place-decoded.ensures))

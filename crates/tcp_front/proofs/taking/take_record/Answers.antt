@@ -1,10 +1,34 @@
-use Rattle.std.proofs.Common.{refl, take, subst, arith}
+use Rattle.std.proofs.Common.{◌≡◌, ℕ, ◌+◌, List, [], ◌∷◌, length, Bor, Option, Some, IfSome, refl, take, subst, arith}
 use Rattle.affinity.specs.Layout.{layout_of}
+use Rattle.rpc_record.specs.Machine.{start}
+use Rattle.rpc_record.specs.Records.{BeginsWith}
 use Rattle.engine_feed.specs.Codec.{heard}
 use Rattle.tcp_front.specs.declared.next_record.Next.{Next}
 use Rattle.tcp_front.specs.Steps.{Comes}
-use Rattle.tcp_front.proofs.Taken.{taken-part, taken-stopped, taken-whole}
+use Rattle.tcp_front.proofs.Adding.{Reads}
+use Rattle.tcp_front.proofs.Taken.{record-within, taken-part, taken-stopped, taken-there, taken-whole}
 use Rattle.tcp_front.proofs.taking.take_record.Goals as goal
+
+pub returns-in-Some-clause-within : goal.returns-in-Some-clause-within
+returns-in-Some-clause-within g c =
+    let at = c.args.stream.now.reassembler in
+    let bytes = c.args.bytes.now in
+    let begins = subst (λ (o : Option (Bor (List ℕ))). IfSome o (λ made. (at ≡ Some start) × BeginsWith made.now bytes)) c.in-Some.is
+    c.whole.ensures.begins in
+    record-within c.in-Some.record.now bytes begins.1
+
+pub returns-in-Some-clause-taken : goal.returns-in-Some-clause-taken
+returns-in-Some-clause-taken g c =
+    let s = c.args.stream.now in
+    let at = s.reassembler in
+    let bytes = c.args.bytes.now in
+    let made = c.in-Some.record.now in
+    let begins = subst (λ (o : Option (Bor (List ℕ))). IfSome o (λ made. (at ≡ Some start) × BeginsWith made.now bytes)) c.in-Some.is
+    c.whole.ensures.begins in
+    let reads = subst (λ (o : Option (Bor (List ℕ))). IfSome o (λ made. Reads at (take (4 + length made.now) bytes) (made.now ∷ []) at))
+    c.in-Some.is c.whole.ensures.reads in
+    taken-there g.S.RecordSink.came (layout_of c.args.layout.now) c.args.offer s c.give_read.new.stream c.args.sink.now c.give_read.new.sink
+    (take (4 + length made) bytes) made c.give_read.result reads begins.0 (c.give_read.ensures.given c.args.offer made c.read_record_at-read.ensures)
 
 pub returns-in-More-clause-some : goal.returns-in-More-clause-some
 returns-in-More-clause-some g c = λ none some.
@@ -45,5 +69,7 @@ returns-in-Record-clause-taken g c =
     let taken = c.next_record-taken.result.0 in
     let comes = subst (λ (n : Next). Comes c.args.offer s.reassembler bytes taken n c.next_record-taken.new.reassembler) c.in-Record.is
     (c.next_record-taken.ensures.comes c.args.offer) in
-    taken-whole g.S.RecordSink.came (layout_of c.args.layout.now) c.args.offer s _ c.give_record.new.stream c.args.sink.now c.give_record.new.sink
-    (take taken bytes) (heard c.args.offer c.in-Record.record.items) c.give_record.result comes.1 (refl, refl) refl c.give_record.ensures.given
+    let to = c.give_read-in-Record in
+    taken-whole g.S.RecordSink.came (layout_of c.args.layout.now) c.args.offer s _ to.new.stream c.args.sink.now to.new.sink
+    (take taken bytes) (heard c.args.offer c.in-Record.record.items) to.result comes.1 (refl, refl) refl
+    (to.ensures.given c.args.offer c.in-Record.record.items c.read_record_of-read.ensures)
