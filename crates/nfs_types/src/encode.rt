@@ -294,7 +294,7 @@ fn moment_bytes(moment: Moment) -> [u8; 8]
 /// Bytes, and those that stand behind them.
 fn join<const A: usize, const B: usize, const N: usize>(first: [u8; A], second: [u8; B]) -> [u8; N]
     requires { A + B ≡ N }
-    ensures { result ≡ first ++ second }
+    ensures { result ≡ first.entry ++ second.entry }
 {
     let mut bytes = [0; N];
     let all = &mut bytes[..];
