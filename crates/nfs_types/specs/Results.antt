@@ -77,12 +77,22 @@ entry_shape = Hyper & any_bytes & Hyper
 abbrev pub entry_value : model.Listed → Value entry_shape
 entry_value e = (e.fileid, (e.name, e.cookie))
 
--- READDIR3resok (section 3.3.16): the directory's attributes, cookieverf, and the list of entries with eof
+-- a page of a directory (sections 3.3.16 and 3.3.17): the directory's attributes, cookieverf, and the list of entries with eof
+abbrev pub page_shape : Shape → Shape
+page_shape entries = after_shape & verifier_shape & entries & Boolean
+
+abbrev pub page_value : (entries : Shape) → model.Shown → Value entries → Bool → Value (page_shape entries)
+page_value entries directory page eof = (Some (attributes_value directory), (replicate 8 0, (page, eof)))
+
+abbrev pub page_bytes : (entries : Shape) → model.Shown → Value entries → Bool → List ℕ
+page_bytes entries directory page eof = spelling (page_shape entries) (page_value entries directory page eof)
+
+-- READDIR3resok (section 3.3.16)
 abbrev pub readdir_shape : Shape
-readdir_shape = after_shape & verifier_shape & Chain entry_shape & Boolean
+readdir_shape = page_shape (Chain entry_shape)
 
 abbrev pub readdir_value : model.Shown → List model.Listed → Bool → Value readdir_shape
-readdir_value directory page eof = (Some (attributes_value directory), (replicate 8 0, (map entry_value page, eof)))
+readdir_value directory page eof = page_value (Chain entry_shape) directory (map entry_value page) eof
 
 -- entryplus3 (section 3.3.17): fileid, name, cookie, name_attributes and name_handle, before the next
 abbrev pub entry_plus_shape : Shape
@@ -91,12 +101,12 @@ entry_plus_shape = Hyper & any_bytes & Hyper & after_shape & Optional handle_sha
 abbrev pub entry_plus_value : model.ListedPlus → Value entry_plus_shape
 entry_plus_value e = (e.entry.fileid, (e.entry.name, (e.entry.cookie, (option_map attributes_value e.attributes, e.handle))))
 
--- READDIRPLUS3resok (section 3.3.17): the directory's attributes, cookieverf, and the list of entries with eof
+-- READDIRPLUS3resok (section 3.3.17)
 abbrev pub readdirplus_shape : Shape
-readdirplus_shape = after_shape & verifier_shape & Chain entry_plus_shape & Boolean
+readdirplus_shape = page_shape (Chain entry_plus_shape)
 
 abbrev pub readdirplus_value : model.Shown → List model.ListedPlus → Bool → Value readdirplus_shape
-readdirplus_value directory page eof = (Some (attributes_value directory), (replicate 8 0, (map entry_plus_value page, eof)))
+readdirplus_value directory page eof = page_value (Chain entry_plus_shape) directory (map entry_plus_value page) eof
 
 -- FSSTAT3resok (section 3.3.18): attributes, tbytes, fbytes, abytes, tfiles, ffiles, afiles and invarsec
 abbrev pub fsstat_shape : Shape

@@ -280,8 +280,27 @@ impl Encode for Moment {
     }
 
     fn write(&self, out: &mut Vec<u8>) {
-        append(out, &two_words(self.seconds, self.nanoseconds));
+        append(out, &moment_bytes(*self));
     }
+}
+
+/// The bytes of a time.
+fn moment_bytes(moment: Moment) -> [u8; 8]
+    ensures { result ≡ spelling moment_shape (moment_value (moment_of moment)) }
+{
+    two_words(moment.seconds, moment.nanoseconds)
+}
+
+/// Bytes, and those that stand behind them.
+fn join<const A: usize, const B: usize, const N: usize>(first: [u8; A], second: [u8; B]) -> [u8; N]
+    requires { A + B ≡ N }
+    ensures { result ≡ first.entry ++ second.entry }
+{
+    let mut bytes = [0; N];
+    let all = &mut bytes[..];
+    all[..A].copy_from_slice(&first);
+    all[A..].copy_from_slice(&second);
+    bytes
 }
 
 /// The bytes of two words.
@@ -329,15 +348,22 @@ impl Encode for Attributes {
 
     fn write(&self, out: &mut Vec<u8>) {
         let device = self.kind.device();
-        append(out, &two_words(self.kind.word(), self.mode));
-        append(out, &two_words(self.links, self.uid));
-        self.gid.write(out);
-        append(out, &two_hypers(self.size, self.used));
-        append(out, &two_words(device.major, device.minor));
-        append(out, &two_hypers(self.fsid, self.fileid.0));
-        self.atime.write(out);
-        self.mtime.write(out);
-        self.ctime.write(out);
+        let kind = two_words(self.kind.word(), self.mode);
+        let links = two_words(self.links, self.uid);
+        let gid = self.gid.to_be_bytes();
+        let sizes = two_hypers(self.size, self.used);
+        let rdev = two_words(device.major, device.minor);
+        let ids = two_hypers(self.fsid, self.fileid.0);
+        let atime = moment_bytes(self.atime);
+        let mtime = moment_bytes(self.mtime);
+        let ctime = moment_bytes(self.ctime);
+        let first: [u8; 16] = join(kind, links);
+        let second: [u8; 20] = join(gid, sizes);
+        let third: [u8; 24] = join(rdev, ids);
+        let last: [u8; 24] = join(atime, join::<8, 8, 16>(mtime, ctime));
+        let before: [u8; 36] = join(first, second);
+        let behind: [u8; 48] = join(third, last);
+        append(out, &join::<36, 48, 84>(before, behind));
     }
 }
 
@@ -351,9 +377,11 @@ impl Encode for PriorAttributes {
     }
 
     fn write(&self, out: &mut Vec<u8>) {
-        self.size.write(out);
-        self.mtime.write(out);
-        self.ctime.write(out);
+        let size = self.size.to_be_bytes();
+        let mtime = moment_bytes(self.mtime);
+        let ctime = moment_bytes(self.ctime);
+        let times: [u8; 16] = join(mtime, ctime);
+        append(out, &join::<8, 16, 24>(size, times));
     }
 }
 

@@ -7,11 +7,11 @@ ghost use Rattle.xdr.specs.Shape.{Chain, Hyper, Word, padding, spelling};
 ghost use Rattle.nfs_values.specs.Attributes.{shown_of};
 ghost use Rattle.nfs_values.specs.Answer.{entry_of, count_of};
 ghost use Rattle.nfs_types.specs.Results.{entry_shape, entry_value, readdir_shape, readdir_value};
-ghost use Rattle.nfs_types.specs.Results.{count_shape, count_value, census_shape};
+ghost use Rattle.nfs_types.specs.Results.{page_bytes, count_shape, count_value, census_shape};
 
 use crate::encode::{Encode, append, size_of_present, write_present};
 use nfs_values::answer::{DirectoryEntry, ReadDirectoryResults, VolumeCount};
-use nfs_values::{Fileid, Verifier};
+use nfs_values::{Attributes, Fileid, Verifier};
 
 impl Encode for DirectoryEntry {
     ghost shape = { entry_shape };
@@ -105,6 +105,39 @@ impl Encode for Vec<DirectoryEntry> {
     }
 }
 
+/// How many bytes a page of a directory takes.
+pub(crate) fn size_of_page<L: Encode>(directory: &Attributes, entries: &L, eof: bool) -> usize
+    requires { length
+        (page_bytes L.shape (shown_of directory.now) (L.value entries.now) eof) < 2 ^ 32 }
+    ensures { result
+        ≡ length (page_bytes L.shape (shown_of directory.now) (L.value entries.now) eof) }
+{
+    size_of_present(directory) + 8 + entries.size() + eof.size()
+}
+
+/// Appends a page of a directory, for which there is room.
+pub(crate) fn write_page<L: Encode>(
+    directory: &Attributes,
+    entries: &L,
+    eof: bool,
+    out: &mut Vec<u8>,
+)
+    requires short { length
+        (page_bytes L.shape (shown_of directory.now) (L.value entries.now) eof) < 2 ^ 32 }
+    requires room { vec_len out.old
+        + length (page_bytes L.shape (shown_of directory.now) (L.value entries.now) eof)
+        ≤ vec_capacity out.old }
+    ensures items { out.new.items
+        ≡ out.old.items
+        ++ page_bytes L.shape (shown_of directory.now) (L.value entries.now) eof }
+    ensures capacity { vec_capacity out.old ≤ vec_capacity out.new }
+{
+    write_present(directory, out);
+    Verifier([0; 8]).write(out);
+    entries.write(out);
+    eof.write(out);
+}
+
 impl Encode for ReadDirectoryResults {
     ghost shape = { readdir_shape };
 
@@ -112,14 +145,11 @@ impl Encode for ReadDirectoryResults {
         readdir_value (shown_of r.directory) (map entry_of r.entries.items) r.eof };
 
     fn size(&self) -> usize {
-        size_of_present(&self.directory) + 8 + self.entries.size() + 4
+        size_of_page(&self.directory, &self.entries, self.eof)
     }
 
     fn write(&self, out: &mut Vec<u8>) {
-        write_present(&self.directory, out);
-        Verifier([0; 8]).write(out);
-        self.entries.write(out);
-        self.eof.write(out);
+        write_page(&self.directory, &self.entries, self.eof, out);
     }
 }
 

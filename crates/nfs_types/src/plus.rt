@@ -7,9 +7,8 @@ ghost use Rattle.nfs_values.specs.Answer.{entry_plus_of};
 ghost use Rattle.nfs_types.specs.Results.{entry_plus_shape, entry_plus_value};
 ghost use Rattle.nfs_types.specs.Results.{readdirplus_shape, readdirplus_value};
 
-use crate::encode::{Encode, size_of_present, write_present};
-use crate::lists::{size_of_chain, write_chain};
-use nfs_values::Verifier;
+use crate::encode::Encode;
+use crate::lists::{size_of_chain, size_of_page, write_chain, write_page};
 use nfs_values::answer::{DirectoryEntryPlus, ReadDirectoryPlusResults};
 
 impl Encode for DirectoryEntryPlus {
@@ -49,13 +48,10 @@ impl Encode for ReadDirectoryPlusResults {
         readdirplus_value (shown_of r.directory) (map entry_plus_of r.entries.items) r.eof };
 
     fn size(&self) -> usize {
-        size_of_present(&self.directory) + 8 + self.entries.size() + 4
+        size_of_page(&self.directory, &self.entries, self.eof)
     }
 
     fn write(&self, out: &mut Vec<u8>) {
-        write_present(&self.directory, out);
-        Verifier([0; 8]).write(out);
-        self.entries.write(out);
-        self.eof.write(out);
+        write_page(&self.directory, &self.entries, self.eof, out);
     }
 }
