@@ -67,16 +67,6 @@ fn caller_at(peer: Peer, caller: Caller) -> Caller
     peer.standing.caller(caller)
 }
 
-/// The call that was read is that of a peer. What has to be answered at once takes it along.
-fn taken(asked: &mut Asked) -> Request
-    ensures { result ≡ request_at asked.old.call asked.old.caller Called }
-{
-    Request::Call {
-        call: mem::replace(&mut asked.call, Call::Null),
-        caller: asked.caller,
-    }
-}
-
 /// Answers a record that has no home. It stands apart, so that others have no room for its reply.
 #[inline(never)]
 fn answer_now<S: RecordSink>(
@@ -94,6 +84,28 @@ fn answer_now<S: RecordSink>(
 {
     let mut reply = reply_at_once(alloc, layout, request);
     sink.answer(origin.connection, origin.xid, &mut reply)
+}
+
+/// Answers a call that was read and has no home, and takes it along.
+#[inline(never)]
+fn answer_read<S: RecordSink>(
+    alloc: Global,
+    sink: &mut S,
+    layout: &Layout,
+    origin: Origin,
+    asked: &mut Asked,
+) -> Result<(), AllocError>
+    ensures ok { OnOk result (S.came sink.old (Answered (addressed origin.connection.0
+        (message origin.xid (reply_at_once (layout_of layout.now)
+        (asked_of (request_at asked.old.call asked.old.caller Called))))) ∷ []) sink.new) }
+    ensures err { OnErr result (S.came sink.old [] sink.new) }
+    ensures layout { S.layout sink.new ≡ S.layout sink.old }
+{
+    let request = Request::Call {
+        call: mem::replace(&mut asked.call, Call::Null),
+        caller: asked.caller,
+    };
+    answer_now(alloc, sink, layout, origin, &request)
 }
 
 /// Gives on what a record of a peer asks: a call with a home to be run, and else the reply. A call
@@ -123,10 +135,7 @@ pub(crate) fn give<S: RecordSink>(
             asked.caller = caller_at(peer, asked.caller);
             match admission_of(layout, &asked.call) {
                 Some(admission) => { sink.admit(origin, asked, admission.affinity, admission.room) }
-                None => {
-                    let request = taken(asked);
-                    answer_now(alloc, sink, layout, origin, &request)
-                }
+                None => answer_read(alloc, sink, layout, origin, asked),
             }
         }
         Verdict::Refused(refusal) => {
