@@ -47,7 +47,7 @@ fn dispatch(
 ) -> Result<Done, Refusal>
     requires whole { words.IsWhole state.old }
     requires counted { counts.old.items ≡ world_counts (world state.old) }
-    ensures events { words.Does state.old (event_of event.entry) result state.new }
+    ensures events { words.DoesEvent state.old (event_of event.entry) result state.new }
     ensures setup { words.HasItsSetup state.old state.new }
     ensures sound { IsSoundEngine state.new }
     ensures counted { counts.new.items ≡ world_counts (world state.new) }
