@@ -69,7 +69,7 @@ pub enum Verdict {
 
 /// A record that is no fault, under its xid.
 #[derive(Clone, Copy)]
-pub struct Told {
+pub struct RecordVerdict {
     pub xid: u32,
     pub verdict: Verdict,
 }
@@ -192,7 +192,7 @@ pub fn read_record_into(
     record: &[u8],
     offer: Offer,
     asked: &mut Asked,
-) -> Result<Told, RecordFault>
+) -> Result<RecordVerdict, RecordFault>
     ensures { Hears (heard_at asked.new result) (heard_by offer record.now) }
 {
     match read_call_of(record, offer) {
@@ -205,9 +205,9 @@ pub fn read_record_into(
             asked.caller = caller_by(xid, credential);
             let form = offer.handles();
             let verdict = read_call_into(alloc, procedure, arguments, form, &mut asked.call);
-            Ok(Told { xid, verdict })
+            Ok(RecordVerdict { xid, verdict })
         }
-        Head::Refuse { xid, reply } => Ok(Told {
+        Head::Refuse { xid, reply } => Ok(RecordVerdict {
             xid,
             verdict: Verdict::Refused(reply),
         }),

@@ -17,7 +17,8 @@ use crate::stream::{MOST_RECORDS, Stopped, Stream};
 use affinity::Layout;
 use engine_feed::stream_fault;
 use rpc_msg::{
-    Asked, Heard, Offer, RecordFault, Request, Told, Verdict, read_record_into, read_record_of,
+    Asked, Heard, Offer, RecordFault, RecordVerdict, Request, Verdict, read_record_into,
+    read_record_of,
 };
 use scheduler::Origin;
 
@@ -27,7 +28,7 @@ fn give_next<S: RecordSink>(
     sink: &mut S,
     layout: &Layout,
     asked: &mut Asked,
-    told: Told,
+    told: RecordVerdict,
 ) -> Option<Stopped>
     requires room { S.room sink.old ≡ true }
     requires few { stream.old.records < most_records }
@@ -68,7 +69,7 @@ fn give_read<S: RecordSink>(
     sink: &mut S,
     layout: &Layout,
     asked: &mut Asked,
-    read: Result<Told, RecordFault>,
+    read: Result<RecordVerdict, RecordFault>,
 ) -> Option<Stopped>
     requires room { S.room sink.old ≡ true }
     requires few { stream.old.records < most_records }
@@ -90,7 +91,7 @@ fn give_read<S: RecordSink>(
 }
 
 /// Puts what was read of a record in its place.
-fn put_heard(asked: &mut Asked, heard: Heard) -> Told
+fn put_heard(asked: &mut Asked, heard: Heard) -> RecordVerdict
     ensures { told_at asked.new result ≡ heard }
 {
     let xid = heard.xid;
@@ -103,7 +104,7 @@ fn put_heard(asked: &mut Asked, heard: Heard) -> Told
         Request::Refused(refusal) => Verdict::Refused(refusal),
         Request::Undecoded => Verdict::Undecoded,
     };
-    Told { xid, verdict }
+    RecordVerdict { xid, verdict }
 }
 
 /// Reads a whole record that came in parts, by what is offered, and gives it on.
