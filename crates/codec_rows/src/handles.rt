@@ -3,8 +3,8 @@
 use crate::bytes::{holds, is_handle, spelled, spells};
 use nfs_values::{Answer, Call, FileHandle, Fileid, MountResults, Named, Reply, VolumeNumber};
 use rpc_msg::{
-    HandleForm, Heard, Offer, RecordFault, Request, read_record_at, read_record_of, tell,
-    write_reply_record,
+    Asked, HandleForm, Heard, Offer, RecordFault, Request, Verdict, read_record_into,
+    read_record_of, tell, write_reply_record,
 };
 use std::mem;
 use std::process::Abort;
@@ -45,24 +45,34 @@ const PLAIN: [(&str, &[u32], &[u8]); 2] = [
 /// A GETATTR call of NFS, as far as its handle.
 const GETATTR: [u32; 10] = [9, 0, 2, 0x000186a3, 3, 1, 0, 0, 0, 0];
 
+/// Whether a call is a GETATTR of a handle that has these bytes.
+fn is_had(call: &Call, wanted: &[u8]) -> bool {
+    match call {
+        Call::GetAttributes { handle } => is_handle(handle, wanted),
+        _ => false,
+    }
+}
+
 /// Whether of the handle in a GETATTR the server has these bytes.
 fn has(rt: &impl Abort, heard: Result<Heard, RecordFault>, wanted: &[u8]) -> bool {
     let heard = heard.ok().expect(rt, "a fault");
-    let is_had = match &heard.request {
-        Request::Call {
-            call: Call::GetAttributes { handle },
-            ..
-        } => is_handle(handle, wanted),
+    let has = match &heard.request {
+        Request::Call { call, caller: _ } => is_had(call, wanted),
         _ => false,
     };
     mem::forget(heard);
-    is_had
+    has
 }
 
 /// Whether it has them of a GETATTR that is heard by an offer, where its record lies and out of it.
 fn hears(rt: &(impl Abort + AllocGlobal), offer: Offer, handle: &[u32], wanted: &[u8]) -> bool {
     let record = spelled(rt, &[&GETATTR, handle]);
-    let lies = has(rt, read_record_at(rt.alloc(), &record, offer), wanted);
+    let mut asked = Asked::NOTHING;
+    let told = read_record_into(rt.alloc(), &record, offer, &mut asked)
+        .ok()
+        .expect(rt, "a fault");
+    let lies = matches!(told.verdict, Verdict::Called) && is_had(&asked.call, wanted);
+    mem::forget(asked);
     let moved = has(rt, read_record_of(rt.alloc(), record, offer), wanted);
     lies && moved
 }

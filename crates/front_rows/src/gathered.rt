@@ -4,11 +4,13 @@ ghost use Rattle.std.specs.Prelude.{◌≡◌, IfOk};
 ghost use Rattle.affinity.specs.Layout.{layout_of};
 ghost use Rattle.front_rows.specs.Gathering.{HasGathered, gathered_none, gathered_more};
 
-use affinity::Layout;
+use affinity::{CallNode, Layout};
 use nfs_values::{Call, ConnectionNumber, Reply};
 use outboxes::Outboxes;
-use scheduler::Message;
+use rpc_msg::Asked;
+use scheduler::{Message, Origin};
 use std::alloc::{AllocError, Global};
+use std::mem;
 use tcp_front::RecordSink;
 
 /// The calls that came, and the replies, each in the outbox of its connection.
@@ -44,8 +46,22 @@ impl RecordSink for Gathered {
         true
     }
 
-    fn admit(&mut self, message: Message<Call>) -> Result<(), AllocError> {
-        Ok(self.calls.push(message)?)
+    fn admit(
+        &mut self,
+        origin: Origin,
+        asked: &mut Asked,
+        affinity: CallNode,
+        room: usize,
+    ) -> Result<(), AllocError> {
+        Ok(
+            self.calls.push(Message {
+                origin,
+                call: mem::replace(&mut asked.call, Call::Null),
+                caller: asked.caller,
+                affinity,
+                room,
+            })?,
+        )
     }
 
     fn answer(

@@ -5,8 +5,10 @@ ghost use Rattle.affinity.specs.Layout.{layout_of};
 ghost use Rattle.front_rows.specs.Gathering.{HasGathered, gathered_none, gathered_more};
 
 use crate::gathered::Gathered;
-use nfs_values::{Call, ConnectionNumber, Reply};
-use scheduler::Message;
+use affinity::CallNode;
+use nfs_values::{ConnectionNumber, Reply};
+use rpc_msg::Asked;
+use scheduler::Origin;
 use std::alloc::AllocError;
 use tcp_front::RecordSink;
 
@@ -48,8 +50,14 @@ impl RecordSink for Placed {
         self.has_place
     }
 
-    fn admit(&mut self, message: Message<Call>) -> Result<(), AllocError> {
-        self.gathered.admit(message)?;
+    fn admit(
+        &mut self,
+        origin: Origin,
+        asked: &mut Asked,
+        affinity: CallNode,
+        room: usize,
+    ) -> Result<(), AllocError> {
+        self.gathered.admit(origin, asked, affinity, room)?;
         self.fill();
         Ok(())
     }

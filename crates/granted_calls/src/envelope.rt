@@ -3,16 +3,19 @@
 ghost use Rattle.std.specs.Prelude.{◌≡◌, ◌≤◌, IfOk};
 ghost use Rattle.affinity.specs.Affinity.{call_affinity};
 ghost use Rattle.outboxes.specs.Boxes.{most_bytes};
+ghost use Rattle.scheduler.specs.Messages.{message_at};
 ghost use Rattle.granted_calls.specs.Messages.{readdressed};
 
 use crate::shared_waiting::Fitting;
 use affinity::{Affinity, CallNode, Layout};
 use nfs_values::{Call, Caller, Moment};
 use outboxes::Room;
+use rpc_msg::Asked;
 use scheduler::{Message, Origin};
 use service::ServedCall;
 use std::alloc::{AllocError, Global};
 use std::marker::Model;
+use std::mem;
 
 /// A message. What it asks stands in memory of its own, as the entry of its call will have it: it
 /// is never moved from there, and what travels through queues and turns is small.
@@ -69,6 +72,38 @@ impl Envelope {
             xid: origin.xid,
             call,
             caller,
+            affinity,
+            moment: Moment::START,
+            starved: false,
+        };
+        match Box::new(alloc, served) {
+            Ok(served) => Ok(Envelope { served, room }),
+            Err(refused) => {
+                drop(refused);
+                Err(AllocError)
+            }
+        }
+    }
+
+    /// The message of a call that was read, which is moved from there, with room for its reply.
+    pub fn of_read(
+        alloc: Global,
+        origin: Origin,
+        asked: &mut Asked,
+        affinity: CallNode,
+        bytes: usize,
+    ) -> Result<Envelope, AllocError>
+        requires { bytes ≤ most_bytes }
+        ensures { IfOk result (λ envelope. envelope
+            ≡ message_at origin asked.old.call asked.old.caller affinity bytes) }
+    {
+        let room = Room::new(alloc, bytes)?;
+        let served = ServedCall {
+            connection: origin.connection,
+            number: origin.number,
+            xid: origin.xid,
+            call: mem::replace(&mut asked.call, Call::Null),
+            caller: asked.caller,
             affinity,
             moment: Moment::START,
             starved: false,

@@ -13,8 +13,8 @@ use granted_calls::shared_waiting::{Pass, SharedWaiting};
 use granted_calls::{Envelope, Filer};
 use nfs_values::{Call, ConnectionNumber, Reply};
 use outboxes::Outboxes;
-use rpc_msg::{HandleForm, tell};
-use scheduler::Message;
+use rpc_msg::{Asked, HandleForm, tell};
+use scheduler::Origin;
 use service::Ahead;
 use statistics::{ReplyCounts, ReplyKind};
 use std::alloc::{AllocError, Global};
@@ -75,8 +75,8 @@ impl<R> Intake<R> {
 
 /// Whether there may be something to tend after a call. After a WRITE on a stripe there isn't,
 /// unless it moves.
-fn may_leave_blocks(message: &Message<Call>) -> bool {
-    !matches!(message.affinity, CallNode::Stripe { .. }) && message.call.may_move_blocks()
+fn may_leave_blocks(affinity: CallNode, call: &Call) -> bool {
+    !matches!(affinity, CallNode::Stripe { .. }) && call.may_move_blocks()
 }
 
 impl<R: Wait> RecordSink for Intake<R> {
@@ -93,11 +93,16 @@ impl<R: Wait> RecordSink for Intake<R> {
         self.waiting < self.most && self.owed.room < MOST_OWED
     }
 
-    fn admit(&mut self, message: Message<Call>) -> Result<(), AllocError> {
-        let room = message.room;
-        let leaving = u64::from(may_leave_blocks(&message));
-        self.ahead.note(&message.call);
-        let message = Envelope::new(self.alloc, message)?;
+    fn admit(
+        &mut self,
+        origin: Origin,
+        asked: &mut Asked,
+        affinity: CallNode,
+        bytes: usize,
+    ) -> Result<(), AllocError> {
+        let leaving = u64::from(may_leave_blocks(affinity, &asked.call));
+        self.ahead.note(&asked.call);
+        let message = Envelope::of_read(self.alloc, origin, asked, affinity, bytes)?;
         put_last(
             &self.queue,
             &mut self.pass,
@@ -106,7 +111,7 @@ impl<R: Wait> RecordSink for Intake<R> {
             message,
         );
         self.waiting += 1;
-        self.owed.add(room);
+        self.owed.add(bytes);
         self.leaving = self.leaving.wrapping_add(leaving);
         Ok(())
     }

@@ -299,3 +299,8 @@ abbrev pub Makes : {X Y : Type 0} → (X → Y) → Bool → Result X Bad → Re
 Makes view memory (Ok x) asked = asked ≡ Ok (view x)
 Makes view memory (Err (bads.Fault fault)) asked = asked ≡ Err fault
 Makes {X} {Y} view memory (Err bads.NoMemory) asked = (memory ≡ true) × ((y : Y) × (asked ≡ Ok y))
+
+-- the call that was put in its place, where it came to that
+abbrev pub put_in : {X : Type 0} → Result (Unit {0}) Bad → X → Result X Bad
+put_in (Ok done) call = Ok call
+put_in (Err bad) call = Err bad

@@ -9,7 +9,7 @@ ghost use Rattle.nfs_values.specs.Call.{call_of};
 ghost use Rattle.nfs_values.specs.Procedure.{numbers_of};
 ghost use Rattle.nfs_values.specs.declared.procedure.Procedure.{Procedure};
 ghost use Rattle.nfs_types.specs.Shapes.{handle_shape, target_shape};
-ghost use Rattle.nfs_types.specs.Arguments.{Makes, target_of, asked, asked_by, takes_memory};
+ghost use Rattle.nfs_types.specs.Arguments.{Makes, put_in, target_of, asked, asked_by, takes_memory};
 ghost use Rattle.nfs_types.specs.Arguments.{setattr_shape, range_shape, writing_shape};
 ghost use Rattle.nfs_types.specs.Arguments.{access_shape, symlinking_shape, mknodding_shape};
 ghost use Rattle.nfs_types.specs.Arguments.{linking_shape, access_call, readlink_call};
@@ -52,79 +52,103 @@ fn target(alloc: Global, bytes: &[u8]) -> Result<Target, Bad>
 }
 
 /// NULL (RFC 1813 section 3.3.0).
-fn null(bytes: &[u8]) -> Result<Call, Bad>
-    ensures { Makes call_of false result (asked_by Void null_call bytes.now) }
+#[inline(never)]
+fn null(bytes: &[u8], call: &mut Call) -> Result<(), Bad>
+    ensures { Makes call_of false (put_in result call.new)
+        (asked_by Void null_call bytes.now) }
 {
     decode_all::<()>(bytes)?;
-    Ok(Call::Null)
+    *call = Call::Null;
+    Ok(())
 }
 
 /// GETATTR (RFC 1813 section 3.3.1).
-fn get_attributes(bytes: &[u8]) -> Result<Call, Bad>
-    ensures { Makes call_of false result (asked_by handle_shape getattr_call bytes.now) }
+#[inline(never)]
+fn get_attributes(bytes: &[u8], call: &mut Call) -> Result<(), Bad>
+    ensures { Makes call_of false (put_in result call.new)
+        (asked_by handle_shape getattr_call bytes.now) }
 {
     let handle = decode_all::<FileHandle>(bytes)?;
-    Ok(Call::GetAttributes { handle })
+    *call = Call::GetAttributes { handle };
+    Ok(())
 }
 
 /// SETATTR (RFC 1813 section 3.3.2).
-fn set_attributes(bytes: &[u8]) -> Result<Call, Bad>
-    ensures { Makes call_of false result (asked_by setattr_shape setattr_call bytes.now) }
+#[inline(never)]
+fn set_attributes(bytes: &[u8], call: &mut Call) -> Result<(), Bad>
+    ensures { Makes call_of false (put_in result call.new)
+        (asked_by setattr_shape setattr_call bytes.now) }
 {
     let (handle, (set, guard)) = decode_all::<(FileHandle, (SetAttributes, Option<Moment>))>(
         bytes,
     )?;
-    Ok(Call::SetAttributes { handle, set, guard })
+    *call = Call::SetAttributes { handle, set, guard };
+    Ok(())
 }
 
 /// LOOKUP (RFC 1813 section 3.3.3).
-fn lookup(alloc: Global, bytes: &[u8]) -> Result<Call, Bad>
-    ensures { Makes call_of true result (asked_by target_shape lookup_call bytes.now) }
+#[inline(never)]
+fn lookup(alloc: Global, bytes: &[u8], call: &mut Call) -> Result<(), Bad>
+    ensures { Makes call_of true (put_in result call.new)
+        (asked_by target_shape lookup_call bytes.now) }
 {
-    Ok(Call::Lookup(target(alloc, bytes)?))
+    *call = Call::Lookup(target(alloc, bytes)?);
+    Ok(())
 }
 
 /// ACCESS (RFC 1813 section 3.3.4).
-fn check_access(bytes: &[u8]) -> Result<Call, Bad>
-    ensures { Makes call_of false result (asked_by access_shape access_call bytes.now) }
+#[inline(never)]
+fn check_access(bytes: &[u8], call: &mut Call) -> Result<(), Bad>
+    ensures { Makes call_of false (put_in result call.new)
+        (asked_by access_shape access_call bytes.now) }
 {
     let (handle, asked) = decode_all::<(FileHandle, u32)>(bytes)?;
-    Ok(Call::CheckAccess { handle, asked })
+    *call = Call::CheckAccess { handle, asked };
+    Ok(())
 }
 
 /// READLINK (RFC 1813 section 3.3.5).
-fn read_link(bytes: &[u8]) -> Result<Call, Bad>
-    ensures { Makes call_of false result (asked_by handle_shape readlink_call bytes.now) }
+#[inline(never)]
+fn read_link(bytes: &[u8], call: &mut Call) -> Result<(), Bad>
+    ensures { Makes call_of false (put_in result call.new)
+        (asked_by handle_shape readlink_call bytes.now) }
 {
     let handle = decode_all::<FileHandle>(bytes)?;
-    Ok(Call::ReadLink { handle })
+    *call = Call::ReadLink { handle };
+    Ok(())
 }
 
 /// READ (RFC 1813 section 3.3.6).
-fn read(bytes: &[u8]) -> Result<Call, Bad>
-    ensures { Makes call_of false result (asked_by range_shape read_call bytes.now) }
+#[inline(never)]
+fn read(bytes: &[u8], call: &mut Call) -> Result<(), Bad>
+    ensures { Makes call_of false (put_in result call.new)
+        (asked_by range_shape read_call bytes.now) }
 {
     let (handle, (offset, count)) = decode_all::<(FileHandle, (u64, u32))>(bytes)?;
-    Ok(Call::Read {
+    *call = Call::Read {
         handle,
         offset,
         count,
-    })
+    };
+    Ok(())
 }
 
 /// WRITE (RFC 1813 section 3.3.7).
-fn write(alloc: Global, bytes: &[u8]) -> Result<Call, Bad>
-    ensures { Makes call_of true result (asked_by writing_shape write_call bytes.now) }
+#[inline(never)]
+fn write(alloc: Global, bytes: &[u8], call: &mut Call) -> Result<(), Bad>
+    ensures { Makes call_of true (put_in result call.new)
+        (asked_by writing_shape write_call bytes.now) }
 {
     let (handle, (offset, (count, (_stable, written)))) = decode_all::<
         (FileHandle, (u64, (u32, (StableHow, &[u8])))),
     >(bytes)?;
-    Ok(Call::Write {
+    *call = Call::Write {
         handle,
         offset,
         count,
         bytes: BytesToWrite::all(Vec::from_slice(alloc, written)?),
-    })
+    };
+    Ok(())
 }
 
 /// WRITE, by the bytes of its record from one on, whose data stay in the record.
@@ -147,248 +171,329 @@ fn write_in_place(record: Vec<u8>, from: usize) -> Result<Call, Bad>
 }
 
 /// CREATE (RFC 1813 section 3.3.8).
-fn create(alloc: Global, bytes: &[u8]) -> Result<Call, Bad>
-    ensures { Makes call_of true result (asked_by creating_shape create_call bytes.now) }
+#[inline(never)]
+fn create(alloc: Global, bytes: &[u8], call: &mut Call) -> Result<(), Bad>
+    ensures { Makes call_of true (put_in result call.new)
+        (asked_by creating_shape create_call bytes.now) }
 {
     let ((directory, name), mode) = decode_all::<((FileHandle, &[u8]), CreateMode)>(bytes)?;
     let target = copied(alloc, directory, name)?;
-    Ok(Call::Create { target, mode })
+    *call = Call::Create { target, mode };
+    Ok(())
 }
 
 /// MKDIR (RFC 1813 section 3.3.9).
-fn make_directory(alloc: Global, bytes: &[u8]) -> Result<Call, Bad>
-    ensures { Makes call_of true result (asked_by making_shape mkdir_call bytes.now) }
+#[inline(never)]
+fn make_directory(alloc: Global, bytes: &[u8], call: &mut Call) -> Result<(), Bad>
+    ensures { Makes call_of true (put_in result call.new)
+        (asked_by making_shape mkdir_call bytes.now) }
 {
     let ((directory, name), set) = decode_all::<((FileHandle, &[u8]), SetAttributes)>(bytes)?;
     let target = copied(alloc, directory, name)?;
-    Ok(Call::MakeDirectory { target, set })
+    *call = Call::MakeDirectory { target, set };
+    Ok(())
 }
 
 /// SYMLINK (RFC 1813 section 3.3.10), whose name and text are copied once nothing is left over.
-fn make_symbolic_link(alloc: Global, bytes: &[u8]) -> Result<Call, Bad>
-    ensures { Makes call_of true result (asked_by symlinking_shape symlink_call bytes.now) }
+#[inline(never)]
+fn make_symbolic_link(alloc: Global, bytes: &[u8], call: &mut Call) -> Result<(), Bad>
+    ensures { Makes call_of true (put_in result call.new)
+        (asked_by symlinking_shape symlink_call bytes.now) }
 {
     let ((directory, name), (set, text)) = decode_all::<
         ((FileHandle, &[u8]), (SetAttributes, &[u8])),
     >(bytes)?;
     let target = copied(alloc, directory, name)?;
     let text = Name::copied(alloc, text)?;
-    Ok(Call::MakeSymbolicLink { target, set, text })
+    *call = Call::MakeSymbolicLink { target, set, text };
+    Ok(())
 }
 
 /// MKNOD (RFC 1813 section 3.3.11).
-fn make_device(alloc: Global, bytes: &[u8]) -> Result<Call, Bad>
-    ensures { Makes call_of true result (asked_by mknodding_shape mknod_call bytes.now) }
+#[inline(never)]
+fn make_device(alloc: Global, bytes: &[u8], call: &mut Call) -> Result<(), Bad>
+    ensures { Makes call_of true (put_in result call.new)
+        (asked_by mknodding_shape mknod_call bytes.now) }
 {
     let ((directory, name), device) = decode_all::<((FileHandle, &[u8]), DeviceToMake)>(bytes)?;
     let target = copied(alloc, directory, name)?;
-    Ok(Call::MakeDevice {
+    *call = Call::MakeDevice {
         target,
         kind: device.kind(),
         set: device.set(),
-    })
+    };
+    Ok(())
 }
 
 /// REMOVE (RFC 1813 section 3.3.12).
-fn remove(alloc: Global, bytes: &[u8]) -> Result<Call, Bad>
-    ensures { Makes call_of true result (asked_by target_shape remove_call bytes.now) }
+#[inline(never)]
+fn remove(alloc: Global, bytes: &[u8], call: &mut Call) -> Result<(), Bad>
+    ensures { Makes call_of true (put_in result call.new)
+        (asked_by target_shape remove_call bytes.now) }
 {
-    Ok(Call::Remove(target(alloc, bytes)?))
+    *call = Call::Remove(target(alloc, bytes)?);
+    Ok(())
 }
 
 /// RMDIR (RFC 1813 section 3.3.13).
-fn remove_directory(alloc: Global, bytes: &[u8]) -> Result<Call, Bad>
-    ensures { Makes call_of true result (asked_by target_shape rmdir_call bytes.now) }
+#[inline(never)]
+fn remove_directory(alloc: Global, bytes: &[u8], call: &mut Call) -> Result<(), Bad>
+    ensures { Makes call_of true (put_in result call.new)
+        (asked_by target_shape rmdir_call bytes.now) }
 {
-    Ok(Call::RemoveDirectory(target(alloc, bytes)?))
+    *call = Call::RemoveDirectory(target(alloc, bytes)?);
+    Ok(())
 }
 
 /// RENAME (RFC 1813 section 3.3.14), whose names are copied once nothing is left over.
-fn rename(alloc: Global, bytes: &[u8]) -> Result<Call, Bad>
-    ensures { Makes call_of true result (asked_by renaming_shape rename_call bytes.now) }
+#[inline(never)]
+fn rename(alloc: Global, bytes: &[u8], call: &mut Call) -> Result<(), Bad>
+    ensures { Makes call_of true (put_in result call.new)
+        (asked_by renaming_shape rename_call bytes.now) }
 {
     let ((from, from_name), (to, to_name)) = decode_all::<
         ((FileHandle, &[u8]), (FileHandle, &[u8])),
     >(bytes)?;
     let from = copied(alloc, from, from_name)?;
     let to = copied(alloc, to, to_name)?;
-    Ok(Call::Rename { from, to })
+    *call = Call::Rename { from, to };
+    Ok(())
 }
 
 /// LINK (RFC 1813 section 3.3.15).
-fn make_link(alloc: Global, bytes: &[u8]) -> Result<Call, Bad>
-    ensures { Makes call_of true result (asked_by linking_shape link_call bytes.now) }
+#[inline(never)]
+fn make_link(alloc: Global, bytes: &[u8], call: &mut Call) -> Result<(), Bad>
+    ensures { Makes call_of true (put_in result call.new)
+        (asked_by linking_shape link_call bytes.now) }
 {
     let (handle, (directory, name)) = decode_all::<(FileHandle, (FileHandle, &[u8]))>(bytes)?;
     let target = copied(alloc, directory, name)?;
-    Ok(Call::MakeLink { handle, target })
+    *call = Call::MakeLink { handle, target };
+    Ok(())
 }
 
 /// READDIR (RFC 1813 section 3.3.16).
-fn read_directory(bytes: &[u8]) -> Result<Call, Bad>
-    ensures { Makes call_of false result (asked_by listing_shape readdir_call bytes.now) }
+#[inline(never)]
+fn read_directory(bytes: &[u8], call: &mut Call) -> Result<(), Bad>
+    ensures { Makes call_of false (put_in result call.new)
+        (asked_by listing_shape readdir_call bytes.now) }
 {
     let (directory, (cookie, (verifier, count))) = decode_all::<
         (FileHandle, (Cookie, (Verifier, u32))),
     >(bytes)?;
-    Ok(Call::ReadDirectory {
+    *call = Call::ReadDirectory {
         directory,
         cookie,
         verifier,
         count,
-    })
+    };
+    Ok(())
 }
 
 /// READDIRPLUS (RFC 1813 section 3.3.17), whose dircount bounds the names.
-fn read_directory_plus(bytes: &[u8]) -> Result<Call, Bad>
-    ensures { Makes call_of false result
+#[inline(never)]
+fn read_directory_plus(bytes: &[u8], call: &mut Call) -> Result<(), Bad>
+    ensures { Makes call_of false (put_in result call.new)
         (asked_by listing_plus_shape readdirplus_call bytes.now) }
 {
     let (directory, (cookie, (verifier, (names_count, count)))) = decode_all::<
         (FileHandle, (Cookie, (Verifier, (u32, u32)))),
     >(bytes)?;
-    Ok(Call::ReadDirectoryPlus {
+    *call = Call::ReadDirectoryPlus {
         directory,
         cookie,
         verifier,
         names_count,
         count,
-    })
+    };
+    Ok(())
 }
 
 /// FSSTAT (RFC 1813 section 3.3.18).
-fn filesystem_status(bytes: &[u8]) -> Result<Call, Bad>
-    ensures { Makes call_of false result (asked_by handle_shape fsstat_call bytes.now) }
+#[inline(never)]
+fn filesystem_status(bytes: &[u8], call: &mut Call) -> Result<(), Bad>
+    ensures { Makes call_of false (put_in result call.new)
+        (asked_by handle_shape fsstat_call bytes.now) }
 {
     let handle = decode_all::<FileHandle>(bytes)?;
-    Ok(Call::FilesystemStatus { handle })
+    *call = Call::FilesystemStatus { handle };
+    Ok(())
 }
 
 /// FSINFO (RFC 1813 section 3.3.19).
-fn filesystem_info(bytes: &[u8]) -> Result<Call, Bad>
-    ensures { Makes call_of false result (asked_by handle_shape fsinfo_call bytes.now) }
+#[inline(never)]
+fn filesystem_info(bytes: &[u8], call: &mut Call) -> Result<(), Bad>
+    ensures { Makes call_of false (put_in result call.new)
+        (asked_by handle_shape fsinfo_call bytes.now) }
 {
     let handle = decode_all::<FileHandle>(bytes)?;
-    Ok(Call::FilesystemInfo { handle })
+    *call = Call::FilesystemInfo { handle };
+    Ok(())
 }
 
 /// PATHCONF (RFC 1813 section 3.3.20).
-fn path_configuration(bytes: &[u8]) -> Result<Call, Bad>
-    ensures { Makes call_of false result (asked_by handle_shape pathconf_call bytes.now) }
+#[inline(never)]
+fn path_configuration(bytes: &[u8], call: &mut Call) -> Result<(), Bad>
+    ensures { Makes call_of false (put_in result call.new)
+        (asked_by handle_shape pathconf_call bytes.now) }
 {
     let handle = decode_all::<FileHandle>(bytes)?;
-    Ok(Call::PathConfiguration { handle })
+    *call = Call::PathConfiguration { handle };
+    Ok(())
 }
 
 /// COMMIT (RFC 1813 section 3.3.21).
-fn commit(bytes: &[u8]) -> Result<Call, Bad>
-    ensures { Makes call_of false result (asked_by range_shape commit_call bytes.now) }
+#[inline(never)]
+fn commit(bytes: &[u8], call: &mut Call) -> Result<(), Bad>
+    ensures { Makes call_of false (put_in result call.new)
+        (asked_by range_shape commit_call bytes.now) }
 {
     let (handle, _range) = decode_all::<(FileHandle, (u64, u32))>(bytes)?;
-    Ok(Call::Commit { handle })
+    *call = Call::Commit { handle };
+    Ok(())
 }
 
 /// CENSUS of the admin program.
-fn census(bytes: &[u8]) -> Result<Call, Bad>
-    ensures { Makes call_of false result (asked_by Void census_call bytes.now) }
+#[inline(never)]
+fn census(bytes: &[u8], call: &mut Call) -> Result<(), Bad>
+    ensures { Makes call_of false (put_in result call.new)
+        (asked_by Void census_call bytes.now) }
 {
     decode_all::<()>(bytes)?;
-    Ok(Call::Census)
+    *call = Call::Census;
+    Ok(())
 }
 
 /// GROW of the admin program.
-fn grow(bytes: &[u8]) -> Result<Call, Bad>
-    ensures { Makes call_of false result (asked_by growing_shape grow_call bytes.now) }
+#[inline(never)]
+fn grow(bytes: &[u8], call: &mut Call) -> Result<(), Bad>
+    ensures { Makes call_of false (put_in result call.new)
+        (asked_by growing_shape grow_call bytes.now) }
 {
     let (volume, ranges) = decode_all::<(VolumeNumber, u32)>(bytes)?;
-    Ok(Call::Grow { volume, ranges })
+    *call = Call::Grow { volume, ranges };
+    Ok(())
 }
 
 /// STOP of the admin program.
-fn stop(bytes: &[u8]) -> Result<Call, Bad>
-    ensures { Makes call_of false result (asked_by Void stop_call bytes.now) }
+#[inline(never)]
+fn stop(bytes: &[u8], call: &mut Call) -> Result<(), Bad>
+    ensures { Makes call_of false (put_in result call.new)
+        (asked_by Void stop_call bytes.now) }
 {
     decode_all::<()>(bytes)?;
-    Ok(Call::Stop)
+    *call = Call::Stop;
+    Ok(())
 }
 
 /// MNT of MOUNT (RFC 1813 appendix I, section 5.2.1), of a root or below one.
-fn mount(alloc: Global, bytes: &[u8]) -> Result<Call, Bad>
-    ensures { Makes call_of true result (asked_by path_shape mnt_call bytes.now) }
+#[inline(never)]
+fn mount(alloc: Global, bytes: &[u8], call: &mut Call) -> Result<(), Bad>
+    ensures { Makes call_of true (put_in result call.new)
+        (asked_by path_shape mnt_call bytes.now) }
 {
     let path = decode_all::<&[u8]>(bytes)?;
     let path = Name::copied(alloc, path)?;
-    Ok(call_of_path(path))
+    *call = call_of_path(path);
+    Ok(())
 }
 
 /// DUMP of MOUNT (RFC 1813 appendix I, section 5.2.2).
-fn list_mounts(bytes: &[u8]) -> Result<Call, Bad>
-    ensures { Makes call_of false result (asked_by Void dump_call bytes.now) }
+#[inline(never)]
+fn list_mounts(bytes: &[u8], call: &mut Call) -> Result<(), Bad>
+    ensures { Makes call_of false (put_in result call.new)
+        (asked_by Void dump_call bytes.now) }
 {
     decode_all::<()>(bytes)?;
-    Ok(Call::Mount(MountCall::ListMounts))
+    *call = Call::Mount(MountCall::ListMounts);
+    Ok(())
 }
 
 /// UMNT of MOUNT (RFC 1813 appendix I, section 5.2.3).
-fn unmount(bytes: &[u8]) -> Result<Call, Bad>
-    ensures { Makes call_of false result (asked_by path_shape umnt_call bytes.now) }
+#[inline(never)]
+fn unmount(bytes: &[u8], call: &mut Call) -> Result<(), Bad>
+    ensures { Makes call_of false (put_in result call.new)
+        (asked_by path_shape umnt_call bytes.now) }
 {
     let _path = decode_all::<&[u8]>(bytes)?;
-    Ok(Call::Mount(MountCall::Unmount))
+    *call = Call::Mount(MountCall::Unmount);
+    Ok(())
 }
 
 /// UMNTALL of MOUNT (RFC 1813 appendix I, section 5.2.4).
-fn unmount_all(bytes: &[u8]) -> Result<Call, Bad>
-    ensures { Makes call_of false result (asked_by Void umntall_call bytes.now) }
+#[inline(never)]
+fn unmount_all(bytes: &[u8], call: &mut Call) -> Result<(), Bad>
+    ensures { Makes call_of false (put_in result call.new)
+        (asked_by Void umntall_call bytes.now) }
 {
     decode_all::<()>(bytes)?;
-    Ok(Call::Mount(MountCall::Unmount))
+    *call = Call::Mount(MountCall::Unmount);
+    Ok(())
 }
 
 /// EXPORT of MOUNT (RFC 1813 appendix I, section 5.2.5).
-fn list_exports(bytes: &[u8]) -> Result<Call, Bad>
-    ensures { Makes call_of false result (asked_by Void export_call bytes.now) }
+#[inline(never)]
+fn list_exports(bytes: &[u8], call: &mut Call) -> Result<(), Bad>
+    ensures { Makes call_of false (put_in result call.new)
+        (asked_by Void export_call bytes.now) }
 {
     decode_all::<()>(bytes)?;
-    Ok(Call::Mount(MountCall::ListExports))
+    *call = Call::Mount(MountCall::ListExports);
+    Ok(())
+}
+
+/// Puts the call that these arguments of a procedure make in its place (RFC 1813 section 3.3 and
+/// appendix I). Where they make none, what is there means nothing.
+pub fn decode_call_into(
+    alloc: Global,
+    procedure: Procedure,
+    bytes: &[u8],
+    call: &mut Call,
+) -> Result<(), Bad>
+    ensures { Makes call_of (takes_memory procedure) (put_in result call.new)
+        (asked procedure bytes.now) }
+{
+    match procedure {
+        Procedure::Null | Procedure::AdminNull | Procedure::MountNull => null(bytes, call),
+        Procedure::GetAttributes => get_attributes(bytes, call),
+        Procedure::SetAttributes => set_attributes(bytes, call),
+        Procedure::Lookup => lookup(alloc, bytes, call),
+        Procedure::CheckAccess => check_access(bytes, call),
+        Procedure::ReadLink => read_link(bytes, call),
+        Procedure::Read => read(bytes, call),
+        Procedure::Write => write(alloc, bytes, call),
+        Procedure::Create => create(alloc, bytes, call),
+        Procedure::MakeDirectory => make_directory(alloc, bytes, call),
+        Procedure::MakeSymbolicLink => make_symbolic_link(alloc, bytes, call),
+        Procedure::MakeDevice => make_device(alloc, bytes, call),
+        Procedure::Remove => remove(alloc, bytes, call),
+        Procedure::RemoveDirectory => remove_directory(alloc, bytes, call),
+        Procedure::Rename => rename(alloc, bytes, call),
+        Procedure::MakeLink => make_link(alloc, bytes, call),
+        Procedure::ReadDirectory => read_directory(bytes, call),
+        Procedure::ReadDirectoryPlus => read_directory_plus(bytes, call),
+        Procedure::FilesystemStatus => filesystem_status(bytes, call),
+        Procedure::FilesystemInfo => filesystem_info(bytes, call),
+        Procedure::PathConfiguration => path_configuration(bytes, call),
+        Procedure::Commit => commit(bytes, call),
+        Procedure::Census => census(bytes, call),
+        Procedure::Grow => grow(bytes, call),
+        Procedure::Stop => stop(bytes, call),
+        Procedure::Mount => mount(alloc, bytes, call),
+        Procedure::ListMounts => list_mounts(bytes, call),
+        Procedure::Unmount => unmount(bytes, call),
+        Procedure::UnmountAll => unmount_all(bytes, call),
+        Procedure::ListExports => list_exports(bytes, call),
+    }
 }
 
 /// The call that these arguments of a procedure make (RFC 1813 section 3.3 and appendix I).
 pub fn decode_call(alloc: Global, procedure: Procedure, bytes: &[u8]) -> Result<Call, Bad>
     ensures { Makes call_of (takes_memory procedure) result (asked procedure bytes.now) }
 {
-    match procedure {
-        Procedure::Null | Procedure::AdminNull | Procedure::MountNull => null(bytes),
-        Procedure::GetAttributes => get_attributes(bytes),
-        Procedure::SetAttributes => set_attributes(bytes),
-        Procedure::Lookup => lookup(alloc, bytes),
-        Procedure::CheckAccess => check_access(bytes),
-        Procedure::ReadLink => read_link(bytes),
-        Procedure::Read => read(bytes),
-        Procedure::Write => write(alloc, bytes),
-        Procedure::Create => create(alloc, bytes),
-        Procedure::MakeDirectory => make_directory(alloc, bytes),
-        Procedure::MakeSymbolicLink => make_symbolic_link(alloc, bytes),
-        Procedure::MakeDevice => make_device(alloc, bytes),
-        Procedure::Remove => remove(alloc, bytes),
-        Procedure::RemoveDirectory => remove_directory(alloc, bytes),
-        Procedure::Rename => rename(alloc, bytes),
-        Procedure::MakeLink => make_link(alloc, bytes),
-        Procedure::ReadDirectory => read_directory(bytes),
-        Procedure::ReadDirectoryPlus => read_directory_plus(bytes),
-        Procedure::FilesystemStatus => filesystem_status(bytes),
-        Procedure::FilesystemInfo => filesystem_info(bytes),
-        Procedure::PathConfiguration => path_configuration(bytes),
-        Procedure::Commit => commit(bytes),
-        Procedure::Census => census(bytes),
-        Procedure::Grow => grow(bytes),
-        Procedure::Stop => stop(bytes),
-        Procedure::Mount => mount(alloc, bytes),
-        Procedure::ListMounts => list_mounts(bytes),
-        Procedure::Unmount => unmount(bytes),
-        Procedure::UnmountAll => unmount_all(bytes),
-        Procedure::ListExports => list_exports(bytes),
-    }
+    let mut call = Call::Null;
+    decode_call_into(alloc, procedure, bytes, &mut call)?;
+    Ok(call)
 }
 
 /// The call that the bytes of a record from one on make, which are the arguments of a procedure.

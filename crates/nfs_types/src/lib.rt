@@ -12,7 +12,7 @@ mod mounting;
 mod plus;
 mod results;
 
-pub use arguments::{decode_args, decode_call, decode_in_place};
+pub use arguments::{decode_args, decode_call, decode_call_into, decode_in_place};
 pub use bad::Bad;
 pub use laws::arguments_are_exact;
 pub use nfs_values::{

@@ -22,6 +22,12 @@ use Rattle.rpc_msg.specs.Heads.{numbers_shape}
 use Rattle.rpc_msg.specs.declared.record.Heard.{Heard}
 use Rattle.rpc_msg.specs.declared.record.Request.{Request}
 use Rattle.rpc_msg.specs.declared.record.Request.TheVariants as requests
+use Rattle.rpc_msg.specs.declared.record.Asked.{Asked}
+use Rattle.rpc_msg.specs.declared.record.RecordVerdict.{RecordVerdict}
+use Rattle.rpc_msg.specs.declared.record.Verdict.{Verdict}
+use Rattle.rpc_msg.specs.declared.record.Verdict.TheVariants as verdicts
+use Rattle.nfs_values.specs.declared.call.Call.{Call}
+use Rattle.nfs_values.specs.declared.caller.Caller.{Caller}
 use Rattle.rpc_msg.specs.Heads as heads
 
 -- BadHeader and NotACall (our profile)
@@ -62,6 +68,19 @@ Tells xid (requests.Call call caller) heard = heard ≡ Ok (record { xid = xid; 
 Tells xid (requests.Refused reply) heard = heard ≡ Ok (record { xid = xid; asked = model.Refused (refusal_of reply) })
 Tells xid requests.Undecoded heard =
     (call : model.Call) × ((caller : model.Caller) × (has_bytes call ≡ true) × (heard ≡ Ok (record { xid = xid; asked = model.Ask call caller })))
+
+-- what a record asks whose call stands in a place of its own
+abbrev pub request_at : Call → Caller → Verdict → Request
+request_at call caller verdicts.Called = requests.Call call caller
+request_at call caller (verdicts.Refused reply) = requests.Refused reply
+request_at call caller verdicts.Undecoded = requests.Undecoded
+
+abbrev pub told_at : Asked → RecordVerdict → Heard
+told_at asked told = record { xid = told.xid; request = request_at asked.call asked.caller told.verdict }
+
+abbrev pub heard_at : Asked → Result RecordVerdict RecordFault → Result Heard RecordFault
+heard_at asked (Ok told) = Ok (told_at asked told)
+heard_at asked (Err fault) = Err fault
 
 abbrev pub Hears : Result Heard RecordFault → Result world.Heard ℕ → Type 0
 Hears (Ok h) heard = Tells h.xid h.request heard

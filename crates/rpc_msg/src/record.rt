@@ -1,23 +1,27 @@
 //! What records ask.
 
-ghost use Rattle.std.specs.Prelude.{ℕ, List, Result};
+ghost use Rattle.std.specs.Prelude.{◌≡◌, ℕ, List, Result};
+ghost use Rattle.nfs_model.specs.Types as model;
 ghost use Rattle.nfs_model.specs.World as World;
 ghost use Rattle.nfs_values.specs.Call.{call_of};
+ghost use Rattle.nfs_values.specs.Caller.{caller_of};
 ghost use Rattle.nfs_values.specs.Credential.{credential_of};
+ghost use Rattle.nfs_values.specs.declared.caller.Caller.{Caller};
 ghost use Rattle.nfs_values.specs.declared.procedure.Procedure.{Procedure};
 ghost use Rattle.nfs_types.specs.Arguments.{Makes, asked, takes_memory};
 ghost use Rattle.rpc_msg.specs.declared.handle_form.HandleForm.TheVariants.{Plain};
 ghost use Rattle.rpc_msg.specs.Heads.{head_by, Call as Asks};
+ghost use Rattle.rpc_msg.specs.Records.{caller_by as caller_said};
 ghost use Rattle.rpc_msg.specs.Records.{heard, heard_by, heard_from, told_heard};
-ghost use Rattle.rpc_msg.specs.Seen.{Hears, Tells};
+ghost use Rattle.rpc_msg.specs.Seen.{Hears, Tells, heard_at, request_at};
 
 use crate::fault::RecordFault;
 use crate::handle_form::HandleForm;
 use crate::handles::hear;
 use crate::head::{Head, read_call_of};
 use crate::offer::Offer;
-use nfs_types::{Bad, decode_call, decode_in_place};
-use nfs_values::{Call, Caller, Credential, PeerAddress, Refusal};
+use nfs_types::{Bad, decode_call_into, decode_in_place};
+use nfs_values::{Call, Caller, Credential, PeerAddress, Procedure, Refusal};
 use std::alloc::Global;
 
 /// What a record asks.
@@ -37,6 +41,52 @@ pub struct Heard {
     pub request: Request,
 }
 
+/// A call that is read, and whom it acts for.
+#[derive(Drop)]
+pub struct Asked {
+    pub call: Call,
+    pub caller: Caller,
+}
+
+impl Asked {
+    /// NULL, of nobody, until a call is read.
+    pub const NOTHING: Asked = Asked {
+        call: Call::Null,
+        caller: Caller::NOBODY,
+    };
+}
+
+/// What a record asks whose call has a place of its own.
+#[derive(Clone, Copy)]
+pub enum Verdict {
+    /// The call that is there.
+    Called,
+    /// It is refused.
+    Refused(Refusal),
+    /// A call, but memory for its name or its data ran out.
+    Undecoded,
+}
+
+/// A record that is no fault, under its xid.
+#[derive(Clone, Copy)]
+pub struct RecordVerdict {
+    pub xid: u32,
+    pub verdict: Verdict,
+}
+
+/// Whom a call acts for, as far as its record says.
+fn caller_by(xid: u32, credential: Credential) -> Caller
+    ensures { caller_of result ≡ caller_said xid (credential_of credential) }
+{
+    Caller {
+        credential,
+        xid,
+        peer: PeerAddress::NONE,
+        is_checked: false,
+        reads_only: false,
+    }
+}
+
 /// What a call asks whose arguments were decoded so.
 fn request_of(xid: u32, credential: Credential, decoded: Result<Call, Bad>) -> Request
     ensures { (procedure : Procedure) (arguments : List ℕ)
@@ -47,13 +97,7 @@ fn request_of(xid: u32, credential: Credential, decoded: Result<Call, Bad>) -> R
     match decoded {
         Ok(call) => Request::Call {
             call,
-            caller: Caller {
-                credential,
-                xid,
-                peer: PeerAddress::NONE,
-                is_checked: false,
-                reads_only: false,
-            },
+            caller: caller_by(xid, credential),
         },
         Err(Bad::Fault(_fault)) => Request::Refused(Refusal::GarbageArguments),
         Err(Bad::NoMemory) => Request::Undecoded,
@@ -73,31 +117,6 @@ fn read_spelled(alloc: Global, record: Vec<u8>, offer: Offer) -> Result<Heard, R
         } => {
             let from = record.len() - arguments.len();
             let decoded = decode_in_place(alloc, procedure, record, from);
-            Ok(Heard {
-                xid,
-                request: request_of(xid, credential, decoded),
-            })
-        }
-        Head::Refuse { xid, reply } => Ok(Heard {
-            xid,
-            request: Request::Refused(reply),
-        }),
-        Head::Fault(fault) => Err(fault),
-    }
-}
-
-/// Reads a whole record where it lies, with its handles as they came.
-fn read_spelled_at(alloc: Global, record: &[u8], offer: Offer) -> Result<Heard, RecordFault>
-    ensures { Hears result (heard_from Plain (head_by offer record.now)) }
-{
-    match read_call_of(record, offer) {
-        Head::Call {
-            xid,
-            procedure,
-            credential,
-            arguments,
-        } => {
-            let decoded = decode_call(alloc, procedure, arguments);
             Ok(Heard {
                 xid,
                 request: request_of(xid, credential, decoded),
@@ -143,12 +162,57 @@ pub fn read_record_of(alloc: Global, record: Vec<u8>, offer: Offer) -> Result<He
     with_handles(read_spelled(alloc, record, offer), offer)
 }
 
-/// Reads a whole record where it lies (RFC 5531 section 9). Names and the data of a WRITE take
-/// memory.
-pub fn read_record_at(alloc: Global, record: &[u8], offer: Offer) -> Result<Heard, RecordFault>
-    ensures { Hears result (heard_by offer record.now) }
+/// Reads the arguments of a call, and makes of its handles those that the server has.
+fn read_call_into(
+    alloc: Global,
+    procedure: Procedure,
+    arguments: &[u8],
+    form: HandleForm,
+    call: &mut Call,
+) -> Verdict
+    ensures { (xid : ℕ) (caller : Caller) (credential : model.Credential)
+        → caller_of caller ≡ caller_said xid credential
+        → Tells xid (request_at call.new caller result)
+        (heard_from form (Asks xid procedure credential arguments.now)) }
 {
-    with_handles(read_spelled_at(alloc, record, offer), offer)
+    match decode_call_into(alloc, procedure, arguments, call) {
+        Ok(()) => {
+            hear(call, form);
+            Verdict::Called
+        }
+        Err(Bad::Fault(_fault)) => Verdict::Refused(Refusal::GarbageArguments),
+        Err(Bad::NoMemory) => Verdict::Undecoded,
+    }
+}
+
+/// Reads a whole record where it lies (RFC 5531 section 9); what a call asks is put in a place for
+/// it, which means nothing where no call is told. Names and the data of a WRITE take memory.
+pub fn read_record_into(
+    alloc: Global,
+    record: &[u8],
+    offer: Offer,
+    asked: &mut Asked,
+) -> Result<RecordVerdict, RecordFault>
+    ensures { Hears (heard_at asked.new result) (heard_by offer record.now) }
+{
+    match read_call_of(record, offer) {
+        Head::Call {
+            xid,
+            procedure,
+            credential,
+            arguments,
+        } => {
+            asked.caller = caller_by(xid, credential);
+            let form = offer.handles();
+            let verdict = read_call_into(alloc, procedure, arguments, form, &mut asked.call);
+            Ok(RecordVerdict { xid, verdict })
+        }
+        Head::Refuse { xid, reply } => Ok(RecordVerdict {
+            xid,
+            verdict: Verdict::Refused(reply),
+        }),
+        Head::Fault(fault) => Err(fault),
+    }
 }
 
 /// Reads a whole record by the basic offer.

@@ -1,4 +1,5 @@
-pub mod QueueNumber
-pub mod Lines
-pub mod Waiting
 pub mod Kept
+pub mod Lines
+pub mod Messages
+pub mod QueueNumber
+pub mod Waiting

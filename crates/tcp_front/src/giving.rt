@@ -8,6 +8,8 @@ ghost use Rattle.engine_feed.specs.Admission.{reply_at_once};
 ghost use Rattle.engine_feed.specs.Seen.{asked_of};
 ghost use Rattle.nfs_values.specs.Call.{call_of};
 ghost use Rattle.nfs_values.specs.Caller.{caller_of};
+ghost use Rattle.rpc_msg.specs.Seen.{request_at};
+ghost use Rattle.rpc_msg.specs.declared.record.Verdict.TheVariants.{Called};
 ghost use Rattle.tcp_front.specs.Arrivals.{Answered};
 ghost use Rattle.tcp_front.specs.Peers.{caller_at, may_ask, may_grow, may_stop, sender_of};
 ghost use Rattle.tcp_front.specs.Steps.{given_of};
@@ -17,9 +19,10 @@ use crate::sink::RecordSink;
 use affinity::Layout;
 use engine_feed::{admission_of, reply_at_once};
 use nfs_values::{AuthFault, Call, Caller, Refusal};
-use rpc_msg::Request;
-use scheduler::{Message, Origin};
+use rpc_msg::{Asked, Request, Verdict};
+use scheduler::Origin;
 use std::alloc::{AllocError, Global};
+use std::mem;
 
 /// Whether a peer may stop the server, for a caller as its record bears it.
 fn may_stop(peer: Peer, caller: &Caller) -> bool
@@ -83,6 +86,28 @@ fn answer_now<S: RecordSink>(
     sink.answer(origin.connection, origin.xid, &mut reply)
 }
 
+/// Answers a call that was read and has no home, and takes it along.
+#[inline(never)]
+fn answer_read<S: RecordSink>(
+    alloc: Global,
+    sink: &mut S,
+    layout: &Layout,
+    origin: Origin,
+    asked: &mut Asked,
+) -> Result<(), AllocError>
+    ensures ok { OnOk result (S.came sink.old (Answered (addressed origin.connection.0
+        (message origin.xid (reply_at_once (layout_of layout.now)
+        (asked_of (request_at asked.old.call asked.old.caller Called))))) ∷ []) sink.new) }
+    ensures err { OnErr result (S.came sink.old [] sink.new) }
+    ensures layout { S.layout sink.new ≡ S.layout sink.old }
+{
+    let request = Request::Call {
+        call: mem::replace(&mut asked.call, Call::Null),
+        caller: asked.caller,
+    };
+    answer_now(alloc, sink, layout, origin, &request)
+}
+
 /// Gives on what a record of a peer asks: a call with a home to be run, and else the reply. A call
 /// that the peer may not ask is refused.
 pub(crate) fn give<S: RecordSink>(
@@ -91,40 +116,31 @@ pub(crate) fn give<S: RecordSink>(
     layout: &Layout,
     peer: Peer,
     origin: Origin,
-    request: Request,
+    asked: &mut Asked,
+    verdict: Verdict,
 ) -> Result<(), AllocError>
     requires room { S.room sink.old ≡ true }
     requires layout { S.layout sink.old ≡ layout_of layout.now }
-    ensures ok { OnOk result
-        (S.came sink.old (given_of (layout_of layout.now) peer origin (asked_of request))
-        sink.new) }
+    ensures ok { OnOk result (S.came sink.old (given_of (layout_of layout.now) peer origin
+        (asked_of (request_at asked.old.call asked.old.caller verdict))) sink.new) }
     ensures err { OnErr result (S.came sink.old [] sink.new) }
     ensures layout { S.layout sink.new ≡ S.layout sink.old }
 {
-    match request {
-        Request::Call { call, caller } => {
-            if !may_ask(peer, &call, &caller) {
+    match verdict {
+        Verdict::Called => {
+            if !may_ask(peer, &asked.call, &asked.caller) {
                 let refused = Request::Refused(Refusal::AuthError(AuthFault::TooWeak));
                 return answer_now(alloc, sink, layout, origin, &refused);
             }
-            match admission_of(layout, &call) {
-                Some(admission) => sink.admit(Message {
-                    origin,
-                    call,
-                    caller: caller_at(peer, caller),
-                    affinity: admission.affinity,
-                    room: admission.room,
-                }),
-                None => {
-                    let caller = caller_at(peer, caller);
-                    let request = Request::Call { call, caller };
-                    answer_now(alloc, sink, layout, origin, &request)
-                }
+            asked.caller = caller_at(peer, asked.caller);
+            match admission_of(layout, &asked.call) {
+                Some(admission) => { sink.admit(origin, asked, admission.affinity, admission.room) }
+                None => answer_read(alloc, sink, layout, origin, asked),
             }
         }
-        Request::Refused(refusal) => {
+        Verdict::Refused(refusal) => {
             answer_now(alloc, sink, layout, origin, &Request::Refused(refusal))
         }
-        Request::Undecoded => answer_now(alloc, sink, layout, origin, &Request::Undecoded),
+        Verdict::Undecoded => answer_now(alloc, sink, layout, origin, &Request::Undecoded),
     }
 }

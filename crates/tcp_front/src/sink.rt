@@ -13,10 +13,13 @@ ghost use Rattle.engine_feed.specs.Sound.{IsAdmitted};
 ghost use Rattle.rpc_msg.specs.Handles.{reply_told};
 ghost use Rattle.outboxes.specs.Boxes.{addressed, most_bytes};
 ghost use Rattle.outboxes.specs.Messages.{message, record_of};
+ghost use Rattle.scheduler.specs.Messages.{message_at};
 ghost use Rattle.tcp_front.specs.Arrivals.{Arrival, Waits, Answered};
 
-use nfs_values::{Call, ConnectionNumber, Reply};
-use scheduler::Message;
+use affinity::CallNode;
+use nfs_values::{ConnectionNumber, Reply};
+use rpc_msg::Asked;
+use scheduler::Origin;
 use std::alloc::AllocError;
 
 /// What takes the calls of a connection, to be run by workers, and the replies that need none.
@@ -35,15 +38,23 @@ pub trait RecordSink {
     fn has_room(&self) -> bool
         ensures { result ≡ room self.now };
 
-    /// Admits a call that tries its home. There is room for it, so that it is refused only for want
-    /// of memory.
-    fn admit(&mut self, message: Message<Call>) -> Result<(), AllocError>
+    /// Admits the call of a record, which tries its home, by what its reply may take. There is room
+    /// for it, so that it is refused only for want of memory. What was read is moved from there.
+    fn admit(
+        &mut self,
+        origin: Origin,
+        asked: &mut Asked,
+        affinity: CallNode,
+        bytes: usize,
+    ) -> Result<(), AllocError>
         requires room { room self.old ≡ true }
-        requires admitted { IsAdmitted (layout self.old) message }
-        requires at_home { home (layout self.old) (call_of message.call)
-            ≡ Some (call_node message.affinity) }
-        requires short { message.room ≤ most_bytes }
-        ensures ok { OnOk result (came self.old (Waits (message_of message) ∷ []) self.new) }
+        requires admitted { IsAdmitted (layout self.old)
+            (message_at origin asked.old.call asked.old.caller affinity bytes) }
+        requires at_home { home (layout self.old) (call_of asked.old.call)
+            ≡ Some (call_node affinity) }
+        requires short { bytes ≤ most_bytes }
+        ensures ok { OnOk result (came self.old (Waits (message_of
+            (message_at origin asked.old.call asked.old.caller affinity bytes)) ∷ []) self.new) }
         ensures err { OnErr result (came self.old [] self.new) }
         ensures layout { layout self.new ≡ layout self.old };
 

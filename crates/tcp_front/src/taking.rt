@@ -3,7 +3,7 @@
 ghost use Rattle.std.specs.Prelude.{◌≡◌, ◌<◌, ◌≤◌, ℕ, List, None, true, false, length, take};
 ghost use Rattle.rpc_msg.specs.declared.offer.Offer.{Offer};
 ghost use Rattle.rpc_msg.specs.Records.{heard_by};
-ghost use Rattle.rpc_msg.specs.Seen.{Hears};
+ghost use Rattle.rpc_msg.specs.Seen.{Hears, heard_at, told_at};
 ghost use Rattle.affinity.specs.Layout.{layout_of};
 ghost use Rattle.tcp_front.specs.Arrivals.{most_records};
 ghost use Rattle.engine_feed.specs.Codec.{heard};
@@ -16,7 +16,10 @@ use crate::sink::RecordSink;
 use crate::stream::{MOST_RECORDS, Stopped, Stream};
 use affinity::Layout;
 use engine_feed::stream_fault;
-use rpc_msg::{Heard, Offer, RecordFault, Request, read_record_at, read_record_of};
+use rpc_msg::{
+    Asked, Heard, Offer, RecordFault, RecordVerdict, Request, Verdict, read_record_into,
+    read_record_of,
+};
 use scheduler::Origin;
 
 /// Gives on a record under the next number.
@@ -24,19 +27,20 @@ fn give_next<S: RecordSink>(
     stream: &mut Stream,
     sink: &mut S,
     layout: &Layout,
-    heard: Heard,
+    asked: &mut Asked,
+    told: RecordVerdict,
 ) -> Option<Stopped>
     requires room { S.room sink.old ≡ true }
     requires few { stream.old.records < most_records }
     requires layout { S.layout sink.old ≡ layout_of layout.now }
-    ensures given { HasGiven S.came (layout_of layout.now) stream.old sink.old (heard_of heard)
-        result stream.new sink.new }
+    ensures given { HasGiven S.came (layout_of layout.now) stream.old sink.old
+        (heard_of (told_at asked.old told)) result stream.new sink.new }
     ensures layout { S.layout sink.new ≡ S.layout sink.old }
 {
     let origin = Origin {
         connection: stream.connection,
         number: stream.records,
-        xid: heard.xid,
+        xid: told.xid,
     };
     match give(
         stream.alloc,
@@ -44,7 +48,8 @@ fn give_next<S: RecordSink>(
         layout,
         stream.peer,
         origin,
-        heard.request,
+        asked,
+        told.verdict,
     ) {
         Err(_refused) => Some(Stopped::NoMemory),
         Ok(()) => {
@@ -63,32 +68,75 @@ fn give_read<S: RecordSink>(
     stream: &mut Stream,
     sink: &mut S,
     layout: &Layout,
-    read: Result<Heard, RecordFault>,
+    asked: &mut Asked,
+    read: Result<RecordVerdict, RecordFault>,
 ) -> Option<Stopped>
     requires room { S.room sink.old ≡ true }
     requires few { stream.old.records < most_records }
     requires layout { S.layout sink.old ≡ layout_of layout.now }
-    ensures given { (offer : Offer) (bytes : List ℕ) → Hears read (heard_by offer bytes)
+    ensures given { (offer : Offer) (bytes : List ℕ)
+        → Hears (heard_at asked.old read) (heard_by offer bytes)
         → HasGivenRecord S.came (layout_of layout.now) stream.old sink.old
         (heard offer bytes) result stream.new sink.new }
     ensures layout { S.layout sink.new ≡ S.layout sink.old }
 {
     match read {
-        Ok(heard) => match &heard.request {
-            Request::Call { .. } => give_next(stream, sink, layout, heard),
-            Request::Refused(_) => give_next(stream, sink, layout, heard),
-            Request::Undecoded => Some(Stopped::NoMemory),
+        Ok(told) => match told.verdict {
+            Verdict::Called => give_next(stream, sink, layout, asked, told),
+            Verdict::Refused(_) => give_next(stream, sink, layout, asked, told),
+            Verdict::Undecoded => Some(Stopped::NoMemory),
         },
         Err(fault) => Some(Stopped::Fault(stream_fault(fault))),
     }
 }
 
-/// Takes bytes up to the end of at most one record, which is given on.
+/// Puts what was read of a record in its place.
+fn put_heard(asked: &mut Asked, heard: Heard) -> RecordVerdict
+    ensures { told_at asked.new result ≡ heard }
+{
+    let xid = heard.xid;
+    let verdict = match heard.request {
+        Request::Call { call, caller } => {
+            asked.call = call;
+            asked.caller = caller;
+            Verdict::Called
+        }
+        Request::Refused(refusal) => Verdict::Refused(refusal),
+        Request::Undecoded => Verdict::Undecoded,
+    };
+    RecordVerdict { xid, verdict }
+}
+
+/// Reads a whole record that came in parts, by what is offered, and gives it on.
+#[inline(never)]
+fn give_joined<S: RecordSink>(
+    stream: &mut Stream,
+    sink: &mut S,
+    layout: &Layout,
+    offer: Offer,
+    asked: &mut Asked,
+    record: Vec<u8>,
+) -> Option<Stopped>
+    requires room { S.room sink.old ≡ true }
+    requires few { stream.old.records < most_records }
+    requires layout { S.layout sink.old ≡ layout_of layout.now }
+    ensures given { HasGivenRecord S.came (layout_of layout.now) stream.old sink.old
+        (heard offer record.items) result stream.new sink.new }
+    ensures layout { S.layout sink.new ≡ S.layout sink.old }
+{
+    let read = read_record_of(stream.alloc, record, offer);
+    let read = read.map(|heard| put_heard(asked, heard));
+    give_read(stream, sink, layout, asked, read)
+}
+
+/// Takes bytes up to the end of at most one record, which is given on. There is a place for what it
+/// asks, which means nothing before and behind.
 fn take_record<S: RecordSink>(
     stream: &mut Stream,
     sink: &mut S,
     layout: &Layout,
     offer: Offer,
+    asked: &mut Asked,
     bytes: &[u8],
 ) -> (usize, Option<Stopped>)
     requires room { S.room sink.old ≡ true }
@@ -101,15 +149,20 @@ fn take_record<S: RecordSink>(
     ensures layout { S.layout sink.new ≡ S.layout sink.old }
 {
     if let Some(record) = stream.reassembler.whole(bytes) {
-        let read = read_record_at(stream.alloc, record, offer);
-        return (4 + record.len(), give_read(stream, sink, layout, read));
+        let read = read_record_into(stream.alloc, record, offer, asked);
+        return (
+            4 + record.len(),
+            give_read(stream, sink, layout, asked, read),
+        );
     }
     let (taken, next) = next_record(&mut stream.reassembler, bytes);
     match next {
         Next::More => (taken, None),
         Next::Record(record) => {
-            let read = read_record_of(stream.alloc, record, offer);
-            (taken, give_read(stream, sink, layout, read))
+            (
+                taken,
+                give_joined(stream, sink, layout, offer, asked, record),
+            )
         }
         Next::Stopped(stopped) => (taken, Some(stopped)),
     }
@@ -131,9 +184,11 @@ pub(crate) fn take_all<S: RecordSink>(
         bytes.now result stream.new sink.new }
     ensures layout { S.layout sink.new ≡ S.layout sink.old }
 {
+    let mut asked = Asked::NOTHING;
     let mut taken = 0;
     while taken < bytes.len() {
-        let (size, stopped) = take_record(stream, sink, layout, offer, &bytes[taken..]);
+        let left = &bytes[taken..];
+        let (size, stopped) = take_record(stream, sink, layout, offer, &mut asked, left);
         match stopped {
             None => taken += size,
             Some(stopped) => return Some(stopped),
@@ -159,12 +214,14 @@ pub fn take_some<S: RecordSink>(
     ensures layout { S.layout sink.new ≡ S.layout sink.old }
     ensures room { result.1 ≡ None → result.0 < length bytes.now → S.room sink.new ≡ false }
 {
+    let mut asked = Asked::NOTHING;
     let mut taken = 0;
     while taken < bytes.len() {
         if !sink.has_room() {
             return (taken, None);
         }
-        let (size, stopped) = take_record(stream, sink, layout, offer, &bytes[taken..]);
+        let left = &bytes[taken..];
+        let (size, stopped) = take_record(stream, sink, layout, offer, &mut asked, left);
         match stopped {
             None => taken += size,
             Some(stopped) => return (taken + size, Some(stopped)),
