@@ -51,7 +51,7 @@ impl RecordSink for Gathered {
         origin: Origin,
         asked: &mut Asked,
         affinity: CallNode,
-        room: usize,
+        reply_bound: usize,
     ) -> Result<(), AllocError> {
         Ok(
             self.calls.push(Message {
@@ -59,7 +59,7 @@ impl RecordSink for Gathered {
                 call: mem::replace(&mut asked.call, Call::Null),
                 caller: asked.caller,
                 affinity,
-                room,
+                room: reply_bound,
             })?,
         )
     }

@@ -55,9 +55,9 @@ impl RecordSink for Placed {
         origin: Origin,
         asked: &mut Asked,
         affinity: CallNode,
-        room: usize,
+        reply_bound: usize,
     ) -> Result<(), AllocError> {
-        self.gathered.admit(origin, asked, affinity, room)?;
+        self.gathered.admit(origin, asked, affinity, reply_bound)?;
         self.fill();
         Ok(())
     }

@@ -11,7 +11,7 @@ use affinity::{Affinity, CallNode, Layout};
 use nfs_values::{Call, Caller, Moment};
 use outboxes::Room;
 use rpc_msg::Asked;
-use scheduler::{Message, Origin};
+use scheduler::Origin;
 use service::ServedCall;
 use std::alloc::{AllocError, Global};
 use std::marker::Model;
@@ -40,64 +40,20 @@ impl Fitting<Layout> for Envelope {
 }
 
 impl Envelope {
-    /// A message in memory of its own, with room for its reply.
-    pub fn new(alloc: Global, message: Message<Call>) -> Result<Envelope, AllocError>
-        requires { message.room ≤ most_bytes }
-        ensures { IfOk result (λ envelope. envelope ≡ message) }
-    {
-        match Room::new(alloc, message.room) {
-            Ok(room) => Envelope::in_room(alloc, message, room),
-            Err(refused) => {
-                drop(message);
-                Err(refused)
-            }
-        }
-    }
-
-    /// A message in memory of its own, with this room for its reply.
-    fn in_room(alloc: Global, message: Message<Call>, room: Room) -> Result<Envelope, AllocError>
-        requires { room ≡ message.room }
-        ensures { IfOk result (λ envelope. envelope ≡ message) }
-    {
-        let Message {
-            origin,
-            call,
-            caller,
-            affinity,
-            room: _,
-        } = message;
-        let served = ServedCall {
-            connection: origin.connection,
-            number: origin.number,
-            xid: origin.xid,
-            call,
-            caller,
-            affinity,
-            moment: Moment::START,
-            starved: false,
-        };
-        match Box::new(alloc, served) {
-            Ok(served) => Ok(Envelope { served, room }),
-            Err(refused) => {
-                drop(refused);
-                Err(AllocError)
-            }
-        }
-    }
-
-    /// The message of a call that was read, which is moved from there, with room for its reply.
-    pub fn of_read(
+    /// A message in memory of its own, with room for its reply. The call that was read is moved to
+    /// there.
+    pub fn new(
         alloc: Global,
         origin: Origin,
         asked: &mut Asked,
         affinity: CallNode,
-        bytes: usize,
+        reply_bound: usize,
     ) -> Result<Envelope, AllocError>
-        requires { bytes ≤ most_bytes }
+        requires { reply_bound ≤ most_bytes }
         ensures { IfOk result (λ envelope. envelope
-            ≡ message_at origin asked.old.call asked.old.caller affinity bytes) }
+            ≡ message_at origin asked.old.call asked.old.caller affinity reply_bound) }
     {
-        let room = Room::new(alloc, bytes)?;
+        let room = Room::new(alloc, reply_bound)?;
         let served = ServedCall {
             connection: origin.connection,
             number: origin.number,

@@ -98,11 +98,11 @@ impl<R: Wait> RecordSink for Intake<R> {
         origin: Origin,
         asked: &mut Asked,
         affinity: CallNode,
-        bytes: usize,
+        reply_bound: usize,
     ) -> Result<(), AllocError> {
         let leaving = u64::from(may_leave_blocks(affinity, &asked.call));
         self.ahead.note(&asked.call);
-        let message = Envelope::of_read(self.alloc, origin, asked, affinity, bytes)?;
+        let message = Envelope::new(self.alloc, origin, asked, affinity, reply_bound)?;
         put_last(
             &self.queue,
             &mut self.pass,
@@ -111,7 +111,7 @@ impl<R: Wait> RecordSink for Intake<R> {
             message,
         );
         self.waiting += 1;
-        self.owed.add(bytes);
+        self.owed.add(reply_bound);
         self.leaving = self.leaving.wrapping_add(leaving);
         Ok(())
     }

@@ -22,4 +22,4 @@ pub use nfs_values::{
     PriorAttributes, Procedure, Refusal, Reply, SetAttributes, SetTime, Status, Target, Verifier,
     VolumeNumber, WorkerNumber, answer,
 };
-pub use results::{encode_result, size_of_result};
+pub use results::{encode_result, size_of_result, write_result};

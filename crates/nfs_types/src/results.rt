@@ -76,8 +76,9 @@ fn size_of_either<T: Encode>(outcome: &Result<T, Status>, parts: u32) -> usize
     }
 }
 
+/// Appends the results (RFC 1813 section 3.3), for which there is room.
 #[tactic(auto, using(crate::proofs::Outcomes::outcomes))]
-fn write_result(answer: &Answer, out: &mut Vec<u8>)
+pub fn write_result(answer: &Answer, out: &mut Vec<u8>)
     requires short { length (answer_bytes (answer_of answer.now)) < 2 ^ 32 }
     requires room { vec_len out.old + length (answer_bytes (answer_of answer.now))
         ≤ vec_capacity out.old }

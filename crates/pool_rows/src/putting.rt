@@ -10,8 +10,8 @@ use affinity::homes::home_of;
 use granted_calls::shared_waiting::Pass;
 use granted_calls::{Envelope, Filer};
 use nfs_values::{Caller, ConnectionNumber};
-use rpc_msg::room_of_reply;
-use scheduler::{Message, Origin};
+use rpc_msg::{Asked, room_of_reply};
+use scheduler::Origin;
 use std::process::Abort;
 use std::sync::Wait;
 use std::thread;
@@ -30,22 +30,18 @@ fn message_of(
     ensures { IsPlaced (layout_in filer.now) result }
 {
     let layout = filer.depot().layout();
-    let call = call_of(rt, ask);
-    let affinity = home_of(&call, layout).expect(rt, "a home");
-    let room = room_of_reply(&call, layout.volume_count() as u32);
+    let mut asked = Asked {
+        call: call_of(rt, ask),
+        caller: Caller::NOBODY,
+    };
+    let affinity = home_of(&asked.call, layout).expect(rt, "a home");
+    let reply_bound = room_of_reply(&asked.call, layout.volume_count() as u32);
     let origin = Origin {
         connection,
         number: xid as usize,
         xid,
     };
-    let message = Message {
-        origin,
-        call,
-        caller: Caller::NOBODY,
-        affinity,
-        room,
-    };
-    Envelope::new(rt.alloc(), message).expect(rt, "no memory")
+    Envelope::new(rt.alloc(), origin, &mut asked, affinity, reply_bound).expect(rt, "no memory")
 }
 
 /// Puts a message. Where the queue is full it tries again until there is a place.

@@ -11,7 +11,7 @@ ghost use Rattle.rpc_msg.specs.Replies.{accepted, body_bytes, denied, message, r
 ghost use Rattle.rpc_msg.specs.Replies.{reply_bytes, reply_record};
 ghost use Rattle.rpc_msg.specs.Given.{read_done};
 
-use nfs_types::{encode_result, size_of_result};
+use nfs_types::{size_of_result, write_result};
 use nfs_values::answer::ReadResults;
 use nfs_values::{Answer, Refusal, Reply};
 use rpc_record::put_header;
@@ -113,7 +113,7 @@ fn append(xid: u32, reply: &Reply, out: &mut Vec<u8>)
     match reply {
         Reply::Success(answer) => {
             write_accepted(xid, SUCCESS, &[], out);
-            encode_result(out, answer).unwrap();
+            write_result(answer, out);
         }
         Reply::Refused(refusal) => append_refusal(xid, *refusal, out),
     }

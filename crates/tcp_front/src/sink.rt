@@ -38,23 +38,24 @@ pub trait RecordSink {
     fn has_room(&self) -> bool
         ensures { result ≡ room self.now };
 
-    /// Admits the call of a record, which tries its home, by what its reply may take. There is room
-    /// for it, so that it is refused only for want of memory. What was read is moved from there.
+    /// Admits the call of a record, which tries its home; its reply takes at most so many bytes.
+    /// There is room for it, so that it is refused only for want of memory. What was read is moved
+    /// from there.
     fn admit(
         &mut self,
         origin: Origin,
         asked: &mut Asked,
         affinity: CallNode,
-        bytes: usize,
+        reply_bound: usize,
     ) -> Result<(), AllocError>
         requires room { room self.old ≡ true }
         requires admitted { IsAdmitted (layout self.old)
-            (message_at origin asked.old.call asked.old.caller affinity bytes) }
+            (message_at origin asked.old.call asked.old.caller affinity reply_bound) }
         requires at_home { home (layout self.old) (call_of asked.old.call)
             ≡ Some (call_node affinity) }
-        requires short { bytes ≤ most_bytes }
+        requires short { reply_bound ≤ most_bytes }
         ensures ok { OnOk result (came self.old (Waits (message_of
-            (message_at origin asked.old.call asked.old.caller affinity bytes)) ∷ []) self.new) }
+            (message_at origin asked.old.call asked.old.caller affinity reply_bound)) ∷ []) self.new) }
         ensures err { OnErr result (came self.old [] self.new) }
         ensures layout { layout self.new ≡ layout self.old };
 

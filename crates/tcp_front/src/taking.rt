@@ -124,9 +124,13 @@ fn give_joined<S: RecordSink>(
         (heard offer record.items) result stream.new sink.new }
     ensures layout { S.layout sink.new ≡ S.layout sink.old }
 {
-    let read = read_record_of(stream.alloc, record, offer);
-    let read = read.map(|heard| put_heard(asked, heard));
-    give_read(stream, sink, layout, asked, read)
+    match read_record_of(stream.alloc, record, offer) {
+        Ok(heard) => {
+            let told = put_heard(asked, heard);
+            give_read(stream, sink, layout, asked, Ok(told))
+        }
+        Err(fault) => give_read(stream, sink, layout, asked, Err(fault)),
+    }
 }
 
 /// Takes bytes up to the end of at most one record, which is given on. There is a place for what it
@@ -158,12 +162,10 @@ fn take_record<S: RecordSink>(
     let (taken, next) = next_record(&mut stream.reassembler, bytes);
     match next {
         Next::More => (taken, None),
-        Next::Record(record) => {
-            (
-                taken,
-                give_joined(stream, sink, layout, offer, asked, record),
-            )
-        }
+        Next::Record(record) => (
+            taken,
+            give_joined(stream, sink, layout, offer, asked, record),
+        ),
         Next::Stopped(stopped) => (taken, Some(stopped)),
     }
 }

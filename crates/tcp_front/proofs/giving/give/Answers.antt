@@ -6,10 +6,12 @@ use Rattle.nfs_model.specs.Tree.{Layout}
 use Rattle.nfs_model.specs.Types as types
 use Rattle.nfs_values.specs.Call.{call_of}
 use Rattle.nfs_values.specs.Caller.{caller_of}
-use Rattle.rpc_msg.specs.declared.record.Request.{Request}
+use Rattle.rpc_msg.specs.declared.record.Verdict.{Verdict}
+use Rattle.rpc_msg.specs.declared.record.Verdict.TheVariants.{Called, Refused, Undecoded}
+use Rattle.rpc_msg.specs.Seen.{request_at}
 use Rattle.engine_feed.specs.Seen.{asked_of}
 use Rattle.engine_feed.specs.Sound.{IsAdmitted}
-use Rattle.rpc_msg.specs.declared.record.Request.TheVariants.{Call, Refused, Undecoded}
+use Rattle.scheduler.specs.Messages.{message_at}
 use Rattle.tcp_front.specs.Arrivals.{Arrival}
 use Rattle.tcp_front.specs.Steps.{given_of}
 use Rattle.tcp_front.specs.Peers.{sender_of}
@@ -19,49 +21,59 @@ use Rattle.tcp_front.proofs.giving.give.Goals as goal
 pub admit-requires-clause-admitted : goal.admit-requires-clause-admitted
 admit-requires-clause-admitted g c =
     let a = c.in-Some.admission in
-    subst (λ (l : Layout). IsAdmitted l
-    (record { origin = c.args.origin; call = c.in-Call.call; caller = c.caller_at.result; affinity = a.affinity; room = a.room }))
+    subst (λ (l : Layout). IsAdmitted l (message_at c.args.origin c.args.asked.now.call c.caller_at-asked.result a.affinity a.room))
     (sym c.requires.layout) (record { node = c.in-Some.ensures.waits.node; room = c.in-Some.ensures.waits.room })
 
 pub returns-in-Some-clause-ok : goal.returns-in-Some-clause-ok
 returns-in-Some-clause-ok g c =
     let layout = layout_of c.args.layout.now in
-    let call = call_of c.in-Call.call in
-    let by = caller_of c.caller_at.result in
+    let asked = c.args.asked.now in
+    let call = call_of asked.call in
+    let by = caller_of c.caller_at-asked.result in
     let sender = sender_of c.args.peer in
-    subst (λ (r : Request). OnOk c.admit.result (g.S.RecordSink.came c.args.sink.now (given_of layout c.args.peer c.args.origin (asked_of r)) c.admit.new.self))
-    (sym c.in-Call.is)
+    subst (λ (v : Verdict). OnOk c.admit.result (g.S.RecordSink.came c.args.sink.now
+    (given_of layout c.args.peer c.args.origin (asked_of (request_at asked.call asked.caller v))) c.admit.new.self))
+    (sym c.in-Called.is)
     (subst (λ (xs : List Arrival). OnOk c.admit.result (g.S.RecordSink.came c.args.sink.now xs c.admit.new.self))
-    (waits-is layout c.args.peer c.args.origin (asked_of (Call c.in-Call.call c.in-Call.caller)) (types.Ask call by)
-    (asked-by sender call (caller_of c.in-Call.caller) by (sym c.may_ask.ensures ∙ c.if-not-may_ask.false) c.caller_at.ensures)
+    (waits-is layout c.args.peer c.args.origin (asked_of (request_at asked.call asked.caller Called)) (types.Ask call by)
+    (asked-by sender call (caller_of asked.caller) by (sym c.may_ask.ensures ∙ c.if-not-may_ask.false) c.caller_at-asked.ensures)
     (call_node c.in-Some.admission.affinity) c.in-Some.ensures.waits.at_home) c.admit.ensures.ok)
 
 pub returns-in-None-clause-ok : goal.returns-in-None-clause-ok
 returns-in-None-clause-ok g c =
     let layout = layout_of c.args.layout.now in
-    let call = call_of c.in-Call.call in
-    let by = caller_of c.caller_at-caller.result in
+    let asked = c.args.asked.now in
+    let call = call_of asked.call in
+    let by = caller_of c.caller_at-asked.result in
     let sender = sender_of c.args.peer in
-    subst (λ (r : Request). OnOk c.answer_now-in-None.result (g.S.RecordSink.came c.args.sink.now (given_of layout c.args.peer c.args.origin (asked_of r)) c.answer_now-in-None.new.sink))
-    (sym c.in-Call.is)
-    (subst (λ (xs : List Arrival). OnOk c.answer_now-in-None.result (g.S.RecordSink.came c.args.sink.now xs c.answer_now-in-None.new.sink))
-    (answered-is layout c.args.peer c.args.origin (asked_of (Call c.in-Call.call c.in-Call.caller)) (types.Ask call by)
-    (asked-by sender call (caller_of c.in-Call.caller) by (sym c.may_ask.ensures ∙ c.if-not-may_ask.false) c.caller_at-caller.ensures)
-    (sym c.in-None.ensures.home)) c.answer_now-in-None.ensures.ok)
+    let to = c.answer_read in
+    subst (λ (v : Verdict). OnOk to.result (g.S.RecordSink.came c.args.sink.now
+    (given_of layout c.args.peer c.args.origin (asked_of (request_at asked.call asked.caller v))) to.new.sink))
+    (sym c.in-Called.is)
+    (subst (λ (xs : List Arrival). OnOk to.result (g.S.RecordSink.came c.args.sink.now xs to.new.sink))
+    (answered-is layout c.args.peer c.args.origin (asked_of (request_at asked.call asked.caller Called)) (types.Ask call by)
+    (asked-by sender call (caller_of asked.caller) by (sym c.may_ask.ensures ∙ c.if-not-may_ask.false) c.caller_at-asked.ensures)
+    (sym c.in-None.ensures.home)) to.ensures.ok)
 
 pub returns-in-Refused-clause-ok : goal.returns-in-Refused-clause-ok
 returns-in-Refused-clause-ok g c =
     let layout = layout_of c.args.layout.now in
+    let asked = c.args.asked.now in
     let to = c.answer_now-in-Refused in
-    subst (λ (r : Request). OnOk to.result (g.S.RecordSink.came c.args.sink.now (given_of layout c.args.peer c.args.origin (asked_of r)) to.new.sink)) (sym c.in-Refused.is)
+    subst (λ (v : Verdict). OnOk to.result (g.S.RecordSink.came c.args.sink.now
+    (given_of layout c.args.peer c.args.origin (asked_of (request_at asked.call asked.caller v))) to.new.sink))
+    (sym c.in-Refused.is)
     (subst (λ (xs : List Arrival). OnOk to.result (g.S.RecordSink.came c.args.sink.now xs to.new.sink))
-    (answered-is layout c.args.peer c.args.origin (asked_of (Refused c.in-Refused.refusal)) _ refl refl) to.ensures.ok)
+    (answered-is layout c.args.peer c.args.origin (asked_of (request_at asked.call asked.caller (Refused c.in-Refused.refusal))) _ refl refl)
+    to.ensures.ok)
 
 pub returns-in-Undecoded-clause-ok : goal.returns-in-Undecoded-clause-ok
 returns-in-Undecoded-clause-ok g c =
     let layout = layout_of c.args.layout.now in
+    let asked = c.args.asked.now in
     let to = c.answer_now-in-Undecoded in
-    subst (λ (r : Request). OnOk to.result (g.S.RecordSink.came c.args.sink.now (given_of layout c.args.peer c.args.origin (asked_of r)) to.new.sink))
+    subst (λ (v : Verdict). OnOk to.result (g.S.RecordSink.came c.args.sink.now
+    (given_of layout c.args.peer c.args.origin (asked_of (request_at asked.call asked.caller v))) to.new.sink))
     (sym c.in-Undecoded.is)
     (subst (λ (xs : List Arrival). OnOk to.result (g.S.RecordSink.came c.args.sink.now xs to.new.sink))
-    (answered-is layout c.args.peer c.args.origin (asked_of Undecoded) _ refl refl) to.ensures.ok)
+    (answered-is layout c.args.peer c.args.origin (asked_of (request_at asked.call asked.caller Undecoded)) _ refl refl) to.ensures.ok)

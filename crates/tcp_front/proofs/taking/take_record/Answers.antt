@@ -28,7 +28,7 @@ returns-in-Some-clause-taken g c =
     let reads = subst (λ (o : Option (Bor (List ℕ))). IfSome o (λ made. Reads at (take (4 + length made.now) bytes) (made.now ∷ []) at))
     c.in-Some.is c.whole.ensures.reads in
     taken-there g.S.RecordSink.came (layout_of c.args.layout.now) c.args.offer s c.give_read.new.stream c.args.sink.now c.give_read.new.sink
-    (take (4 + length made) bytes) made c.give_read.result reads begins.0 (c.give_read.ensures.given c.args.offer made c.read_record_at-read.ensures)
+    (take (4 + length made) bytes) made c.give_read.result reads begins.0 (c.give_read.ensures.given c.args.offer made c.read_record_into-read.ensures)
 
 pub returns-in-More-clause-some : goal.returns-in-More-clause-some
 returns-in-More-clause-some g c = λ none some.
@@ -69,7 +69,6 @@ returns-in-Record-clause-taken g c =
     let taken = c.next_record-taken.result.0 in
     let comes = subst (λ (n : Next). Comes c.args.offer s.reassembler bytes taken n c.next_record-taken.new.reassembler) c.in-Record.is
     (c.next_record-taken.ensures.comes c.args.offer) in
-    let to = c.give_read-in-Record in
+    let to = c.give_joined in
     taken-whole g.S.RecordSink.came (layout_of c.args.layout.now) c.args.offer s _ to.new.stream c.args.sink.now to.new.sink
-    (take taken bytes) (heard c.args.offer c.in-Record.record.items) to.result comes.1 (refl, refl) refl
-    (to.ensures.given c.args.offer c.in-Record.record.items c.read_record_of-read.ensures)
+    (take taken bytes) (heard c.args.offer c.in-Record.record.items) to.result comes.1 (refl, refl) refl to.ensures.given
