@@ -1,6 +1,7 @@
 //! How handles are spelled.
 
-ghost use Rattle.std.specs.Prelude.{◌≡◌};
+ghost use Rattle.std.specs.Prelude.{◌≡◌, length};
+ghost use Rattle.std.specs.Int.{w64, to_be_bytes};
 ghost use Rattle.nfs_model.specs.Names.{same_name};
 ghost use Rattle.rpc_msg.specs.HandleForm.{heard_in_run as heard_so, told_in_run as told_so};
 
@@ -16,11 +17,15 @@ pub enum HandleForm {
     OfRun(u64),
 }
 
-/// Whether two lists of bytes are one.
-fn is_same(bytes: &[u8], other: &[u8]) -> bool
-    ensures { result ≡ same_name bytes.now other.now }
+/// Whether eight bytes are those of a number, the highest first.
+fn spell(bytes: &[u8], number: u64) -> bool
+    requires { length bytes.now ≡ 8 }
+    ensures { result ≡ same_name bytes.now (to_be_bytes w64 number) }
 {
-    bytes == other
+    let spelled = u64::from_be_bytes([
+        bytes[0], bytes[1], bytes[2], bytes[3], bytes[4], bytes[5], bytes[6], bytes[7],
+    ]);
+    spelled == number
 }
 
 /// What came as a handle, as the server has it in the run of this number.
@@ -32,7 +37,7 @@ pub(crate) fn heard_in_run(handle: &FileHandle, run: u64) -> FileHandle
     if bytes.len() != 20 {
         return FileHandle::new(&[]);
     }
-    if is_same(&bytes[HANDLE_BYTES..], &run.to_be_bytes()) {
+    if spell(&bytes[HANDLE_BYTES..], run) {
         return FileHandle::new(&bytes[..HANDLE_BYTES]);
     }
     let mut other = [0; HANDLE_BYTES];
