@@ -56,8 +56,8 @@ abbrev pub HasItsSetup : Shown → Shown → Type 0
 HasItsSetup old new = setup_in new ≡ setup_in old
 
 -- a list of events, of which this many were refused
-abbrev pub HasRun : Shown → List Event → ℕ → Shown → Type 0
-HasRun old es refused new = RunsRefusing (setup_in old) old.world (map event_of es) refused new.world
+abbrev pub HasRunEvents : Shown → List Event → ℕ → Shown → Type 0
+HasRunEvents old es refused new = RunsRefusing (setup_in old) old.world (map event_of es) refused new.world
 
 -- a list of events from the beginning
 abbrev pub HasPlayed : List Event → Shown → Type 0

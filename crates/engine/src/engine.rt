@@ -11,7 +11,7 @@ ghost use Rattle.engine.specs.counts.Counts.{parts_told, world_counts};
 ghost use Rattle.engine.specs.Engine.{output_in, stream_in};
 ghost use Rattle.engine.specs.Promise.{Promise, GoesOn};
 ghost use Rattle.engine.specs.Seen.{event_of, worker_seen, setup_of, world};
-ghost use Rattle.engine.specs.Shown.{setup_in, Does, HasRun, HasPlayed, HasItsSetup};
+ghost use Rattle.engine.specs.Shown.{setup_in, Does, HasRunEvents, HasPlayed, HasItsSetup};
 ghost use Rattle.engine.specs.Shown.{HasHeadline, HasOutcomes, HasHistory};
 ghost use Rattle.engine.specs.Sound.{IsSoundEngine};
 ghost use Rattle.engine.specs.Words as words;
@@ -194,7 +194,7 @@ impl Engine {
 
     /// Takes events, and answers how many were refused.
     pub fn run(&mut self, events: &[Event<'_>]) -> usize
-        ensures runs { HasRun self.old events.now result self.new }
+        ensures runs { HasRunEvents self.old events.now result self.new }
         ensures setup { HasItsSetup self.old self.new }
         ensures headline { HasHeadline self.new }
         ensures outcomes { HasOutcomes self.new }

@@ -191,13 +191,13 @@ abbrev pub done : (shape : Shape) → Value shape → List ℕ
 done shape v = spelling (Word & shape) (0, v)
 
 -- this many optional parts that are absent
-abbrev pub absent_parts : ℕ → List ℕ
-absent_parts zero = []
-absent_parts (suc n) = spelling (Optional Void) None ++ absent_parts n
+abbrev pub absent_bytes : ℕ → List ℕ
+absent_bytes zero = []
+absent_bytes (suc n) = spelling (Optional Void) None ++ absent_bytes n
 
 -- a status and the failure arm
 abbrev pub failed : model.Status → ℕ → List ℕ
-failed status absent = spelling Word (model.status_word status) ++ absent_parts absent
+failed status absent = spelling Word (model.status_word status) ++ absent_bytes absent
 
 -- The bytes of results. In an OK arm each optional part is there, but for the attributes of READ and WRITE; in a failure arm none is (our profile).
 abbrev pub answer_bytes : model.Answer → List ℕ

@@ -4,7 +4,7 @@ ghost use Rattle.std.specs.Prelude.{◌≡◌, ◌+◌, ◌*◌, ◌≤◌, ◌<
 ghost use Rattle.std.specs.Prelude.{vec_len, vec_capacity};
 ghost use Rattle.nfs_values.specs.Answer.{answer_of};
 ghost use Rattle.nfs_values.specs.Status.{status_of};
-ghost use Rattle.nfs_types.specs.Results.{absent_parts, answer_bytes, done, failed, result_bytes};
+ghost use Rattle.nfs_types.specs.Results.{absent_bytes, answer_bytes, done, failed, result_bytes};
 
 use crate::encode::{Encode, write_absent};
 use nfs_values::{Answer, Status};
@@ -26,7 +26,7 @@ fn write_done<T: Encode>(arm: &T, out: &mut Vec<u8>)
 #[tactic(auto, using(crate::specs::lemmas::Absent::absent))]
 fn write_absent_parts(count: u32, out: &mut Vec<u8>)
     requires { vec_len out.old + 4 * count ≤ vec_capacity out.old }
-    ensures items { out.new.items ≡ out.old.items ++ absent_parts count }
+    ensures items { out.new.items ≡ out.old.items ++ absent_bytes count }
     ensures capacity { vec_capacity out.old ≤ vec_capacity out.new }
 {
     for _part in 0..count {

@@ -12,7 +12,7 @@ use Rattle.nfs_model.specs.Serial.Readdirplus.{entry_plus_size, fitting_plus}
 use Rattle.nfs_types.specs.Shapes.{◌&◌, handle_shape, after_shape, attributes_value, change_shape, change_value}
 use Rattle.nfs_model.specs.Serial.Mount.{root_of, mounted, mount, parts}
 use Rattle.nfs_types.specs.Results.{entry_shape, entry_value, entry_plus_shape, entry_plus_value, answer_bytes}
-use Rattle.nfs_types.specs.lemmas.Absent.{length-absent_parts}
+use Rattle.nfs_types.specs.lemmas.Absent.{length-absent_bytes}
 use Rattle.nfs_types.specs.lemmas.Lists.{length-counts, length-exports}
 use Rattle.rpc_msg.specs.HandleForm.{told_in_run, verifier_of}
 use Rattle.rpc_msg.specs.Handles.{answer_with, listed_with}
@@ -68,7 +68,7 @@ mount_size volumes model.Exports = record { bytes = omega (arith, length-exports
 mount_size volumes model.Unmount = record { bytes = omega arith }
 
 pub failed_size : (status : model.Status) (absent : ℕ) → length (answer_bytes (model.Failed status absent)) ≡ 4 + 4 * absent
-failed_size status absent = omega (arith, length-absent_parts absent)
+failed_size status absent = omega (arith, length-absent_bytes absent)
 
 -- ---- bytes that were read
 

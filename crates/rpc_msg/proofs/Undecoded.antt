@@ -20,7 +20,7 @@ use Rattle.nfs_types.specs.lemmas.Exact.{asked_is}
 use Rattle.rpc_msg.specs.declared.record.Request.TheVariants as requests
 use Rattle.rpc_msg.specs.Heads.{Call}
 use Rattle.rpc_msg.specs.Records.{asked_by, caller_by, heard_from}
-use Rattle.rpc_msg.specs.Seen.{Tells}
+use Rattle.rpc_msg.specs.Seen.{IsRequestOf}
 
 -- a MNT has its path
 bytes_by : (path : List ℕ) (others : List (List ℕ)) (volume : Option ℕ) → has_bytes (mnt_by path others volume) ≡ true
@@ -58,7 +58,7 @@ bytes_heard (OfRun run) call = bytes_with (heard_in_run run) call
 
 pub undecoded_by : (form : HandleForm) (xid : ℕ) (procedure : Procedure) (who : model.Credential) (arguments : List ℕ)
     → (takes_memory procedure ≡ true) × ((call : model.Call) × (asked procedure arguments ≡ Ok call))
-    → Tells xid requests.Undecoded (heard_from form (Call xid procedure who arguments))
+    → IsRequestOf xid requests.Undecoded (heard_from form (Call xid procedure who arguments))
 undecoded_by form xid procedure who arguments m = (
   call_heard form m.1.0,
   (
@@ -70,5 +70,5 @@ undecoded_by form xid procedure who arguments m = (
 
 pub undecoded : (xid : ℕ) (procedure : Procedure) (who : model.Credential) (arguments : List ℕ)
     → (takes_memory procedure ≡ true) × ((call : model.Call) × (asked procedure arguments ≡ Ok call))
-    → Tells xid requests.Undecoded (heard_from Plain (Call xid procedure who arguments))
+    → IsRequestOf xid requests.Undecoded (heard_from Plain (Call xid procedure who arguments))
 undecoded = undecoded_by Plain

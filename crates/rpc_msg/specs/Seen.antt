@@ -63,10 +63,10 @@ abbrev pub with_rest : {X Y : Type 0} → (X → Y) → X × Bor (List ℕ) → 
 with_rest view x = (view x.0, x.1.now)
 
 -- What a record asks, as it is told. None is told only where memory ran out: where a call has a name or data.
-abbrev pub Tells : ℕ → Request → Result world.Heard ℕ → Type 0
-Tells xid (requests.Call call caller) heard = heard ≡ Ok (record { xid = xid; asked = model.Ask (call_of call) (caller_of caller) })
-Tells xid (requests.Refused reply) heard = heard ≡ Ok (record { xid = xid; asked = model.Refused (refusal_of reply) })
-Tells xid requests.Undecoded heard =
+abbrev pub IsRequestOf : ℕ → Request → Result world.Heard ℕ → Type 0
+IsRequestOf xid (requests.Call call caller) heard = heard ≡ Ok (record { xid = xid; asked = model.Ask (call_of call) (caller_of caller) })
+IsRequestOf xid (requests.Refused reply) heard = heard ≡ Ok (record { xid = xid; asked = model.Refused (refusal_of reply) })
+IsRequestOf xid requests.Undecoded heard =
     (call : model.Call) × ((caller : model.Caller) × (has_bytes call ≡ true) × (heard ≡ Ok (record { xid = xid; asked = model.Ask call caller })))
 
 -- what a record asks whose call stands in a place of its own
@@ -83,5 +83,5 @@ heard_at asked (Ok told) = Ok (told_at asked told)
 heard_at asked (Err fault) = Err fault
 
 abbrev pub Hears : Result Heard RecordFault → Result world.Heard ℕ → Type 0
-Hears (Ok h) heard = Tells h.xid h.request heard
+Hears (Ok h) heard = IsRequestOf h.xid h.request heard
 Hears (Err fault) heard = heard ≡ Err (fault_number fault)

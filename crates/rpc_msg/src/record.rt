@@ -13,7 +13,7 @@ ghost use Rattle.rpc_msg.specs.declared.handle_form.HandleForm.TheVariants.{Plai
 ghost use Rattle.rpc_msg.specs.Heads.{head_by, Call as Asks};
 ghost use Rattle.rpc_msg.specs.Records.{caller_by as caller_said};
 ghost use Rattle.rpc_msg.specs.Records.{heard, heard_by, heard_from, told_heard};
-ghost use Rattle.rpc_msg.specs.Seen.{Hears, Tells, heard_at, request_at};
+ghost use Rattle.rpc_msg.specs.Seen.{Hears, IsRequestOf, heard_at, request_at};
 
 use crate::fault::RecordFault;
 use crate::handle_form::HandleForm;
@@ -91,7 +91,7 @@ fn caller_by(xid: u32, credential: Credential) -> Caller
 fn request_of(xid: u32, credential: Credential, decoded: Result<Call, Bad>) -> Request
     ensures { (procedure : Procedure) (arguments : List ℕ)
         → Makes call_of (takes_memory procedure) decoded (asked procedure arguments)
-        → Tells xid result
+        → IsRequestOf xid result
         (heard_from Plain (Asks xid procedure (credential_of credential) arguments)) }
 {
     match decoded {
@@ -134,7 +134,7 @@ fn read_spelled(alloc: Global, record: Vec<u8>, offer: Offer) -> Result<Heard, R
 /// is put together is copied at each step from there.
 fn hear_request(request: &mut Request, form: HandleForm)
     ensures { (xid : ℕ) (told : Result World.Heard ℕ)
-        → Tells xid request.old told → Tells xid request.new (told_heard form told) }
+        → IsRequestOf xid request.old told → IsRequestOf xid request.new (told_heard form told) }
 {
     match request {
         Request::Call { call, caller: _ } => hear(call, form),
@@ -172,7 +172,7 @@ fn read_call_into(
 ) -> Verdict
     ensures { (xid : ℕ) (caller : Caller) (credential : model.Credential)
         → caller_of caller ≡ caller_said xid credential
-        → Tells xid (request_at call.new caller result)
+        → IsRequestOf xid (request_at call.new caller result)
         (heard_from form (Asks xid procedure credential arguments.now)) }
 {
     match decode_call_into(alloc, procedure, arguments, call) {

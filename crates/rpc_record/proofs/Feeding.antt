@@ -8,7 +8,7 @@ use Rattle.rpc_record.specs.Stream.{Reading, read_stream}
 use Rattle.rpc_record.specs.declared.reassembler.Step.{Step}
 use Rattle.rpc_record.specs.declared.reassembler.Step.TheVariants as steps
 use Rattle.rpc_record.specs.declared.reassembler.Look.TheVariants as looks
-use Rattle.rpc_record.specs.Feeds.{Feeds, GivesNothing, given, look_at, Tells, Foresees, GoesOn}
+use Rattle.rpc_record.specs.Feeds.{Feeds, GivesNothing, given, look_at, LookAgrees, Foresees, GoesOn}
 use Rattle.rpc_record.proofs.Scans.{IsBefore, scan-take}
 use Rattle.rpc_record.proofs.Streams.{ReadsTo, reads_to, more_read, made_read, fault_read}
 
@@ -118,7 +118,7 @@ look_within bytes (Some s) = outcome_within bytes s (scan 0 s bytes) (reads_to 0
 
 -- A look tells what a feed takes and answers.
 pub feeds_tell : (old new : Option State) (bytes : List ℕ) (taken : ℕ) (step : Step) → Feeds old bytes taken step new
-    → Tells (look_at bytes (outcome old bytes)) taken step
+    → LookAgrees (look_at bytes (outcome old bytes)) taken step
 feeds_tell old new bytes taken (steps.Record made) f = ap (look_at bytes) f.2
 feeds_tell old new bytes taken steps.More f = ap (look_at bytes) f.1.1 ∙ ap (λ (k : ℕ). (k, looks.More)) (sym f.0)
 feeds_tell old new bytes taken steps.Fault f = ap (look_at bytes) f.1

@@ -58,11 +58,11 @@ look_at bytes (Made taken _) = (taken, looks.Record)
 look_at bytes (Fault taken) = (taken, looks.Fault)
 
 -- A look told what feeding the same bytes took and answered, want of memory aside.
-abbrev pub Tells : ℕ × Look → ℕ → Step → Type 0
-Tells told taken (steps.Record _) = told ≡ (taken, looks.Record)
-Tells told taken steps.More = told ≡ (taken, looks.More)
-Tells told taken steps.Fault = told ≡ (taken, looks.Fault)
-Tells told taken steps.NoMemory = Unit {0}
+abbrev pub LookAgrees : ℕ × Look → ℕ → Step → Type 0
+LookAgrees told taken (steps.Record _) = told ≡ (taken, looks.Record)
+LookAgrees told taken steps.More = told ≡ (taken, looks.More)
+LookAgrees told taken steps.Fault = told ≡ (taken, looks.Fault)
+LookAgrees told taken steps.NoMemory = Unit {0}
 
 -- These bytes make no record of the stream, and no header in them is at fault.
 abbrev pub GoesOn : List ℕ → List ℕ → Type 0

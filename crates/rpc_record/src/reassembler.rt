@@ -4,7 +4,7 @@ ghost use Rattle.rpc_record.specs.Machine.{State, start, outcome, IsMore};
 ghost use Rattle.rpc_record.specs.Stream.{read_stream};
 ghost use Rattle.rpc_record.specs.Records.{BeginsWith};
 ghost use Rattle.rpc_record.specs.Feeds.{Feeds, GoesOn, Foresees, HasCome, Says, GivesNothing};
-ghost use Rattle.rpc_record.specs.Feeds.{given, look_at, Tells, step_number, look_number};
+ghost use Rattle.rpc_record.specs.Feeds.{given, look_at, LookAgrees, step_number, look_number};
 ghost use Rattle.rpc_record.specs.declared.reassembler.Step.{Step};
 ghost use Rattle.rpc_record.specs.declared.reassembler.Step.TheVariants as steps;
 
@@ -187,7 +187,7 @@ impl Reassembler {
 
         // Of what `feed` takes of the same bytes and answers, want of memory aside.
         ensures tells { (taken : ℕ) (step : Step) (new : Option State)
-            → Feeds self.now bytes.now taken step new → Tells result taken step }
+            → Feeds self.now bytes.now taken step new → LookAgrees result taken step }
 
         // Of a whole stream that the caller keeps.
         ensures foresees { (stream : List ℕ) → (read_stream stream).at ≡ self.now

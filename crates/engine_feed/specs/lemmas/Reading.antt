@@ -10,7 +10,7 @@ use Rattle.rpc_msg.specs.declared.record.Request.{Request}
 use Rattle.rpc_msg.specs.declared.record.Request.TheVariants as requests
 use Rattle.rpc_msg.specs.declared.offer.Offer.{Offer}
 use Rattle.rpc_msg.specs.Records as records
-use Rattle.rpc_msg.specs.Seen.{Hears, Tells, fault_number as record_fault}
+use Rattle.rpc_msg.specs.Seen.{Hears, IsRequestOf, fault_number as record_fault}
 use Rattle.engine_feed.specs.Codec.{heard}
 use Rattle.engine_feed.specs.Numbers.{fault_number}
 use Rattle.engine_feed.specs.Records.{fault_of}
@@ -27,10 +27,10 @@ module _ (offer : Offer) (bytes : List ℕ) where
   told_as read as_this is told = subst (λ (r : Result Heard RecordFault). Hears r (records.heard_by offer bytes)) is told
 
   asks : (h : Heard) (request : Request) → h.request ≡ request → Hears (Ok h) (records.heard_by offer bytes)
-      → (Tells h.xid request (records.heard_by offer bytes) → records.heard_by offer bytes ≡ Ok (record { xid = h.xid; asked = asked_of request }))
+      → (IsRequestOf h.xid request (records.heard_by offer bytes) → records.heard_by offer bytes ≡ Ok (record { xid = h.xid; asked = asked_of request }))
       → heard offer bytes ≡ Ok (heard_of h)
   asks h request is told reads =
-      heard_is offer bytes ∙ reads (subst (λ (r : Request). Tells h.xid r (records.heard_by offer bytes)) is told)
+      heard_is offer bytes ∙ reads (subst (λ (r : Request). IsRequestOf h.xid r (records.heard_by offer bytes)) is told)
       ∙ ap (λ (x : types.Asked). Ok (record { xid = h.xid; asked = x })) (sym (ap asked_of is))
 
   pub call_read : (read : Result Heard RecordFault) (h : Heard) (call : _) (caller : _) → read ≡ Ok h → h.request ≡ requests.Call call caller
@@ -46,7 +46,7 @@ module _ (offer : Offer) (bytes : List ℕ) where
       → Hears read (records.heard_by offer bytes)
       → (asked : types.Asked) × IsTrue (may_starve_at_decoding asked) × (heard offer bytes ≡ Ok (record { xid = h.xid; asked = asked }))
   undecoded_read read h is of told =
-      let q = subst (λ (r : Request). Tells h.xid r (records.heard_by offer bytes)) of (told_as read (Ok h) is told) in
+      let q = subst (λ (r : Request). IsRequestOf h.xid r (records.heard_by offer bytes)) of (told_as read (Ok h) is told) in
       (types.Ask q.0 q.1.0, q.1.1, heard_is offer bytes ∙ q.1.2)
 
   pub fault_read : (read : Result Heard RecordFault) (fault : RecordFault) → read ≡ Err fault → Hears read (records.heard_by offer bytes)

@@ -6,7 +6,7 @@ use Rattle.nfs_values.specs.Credential.{credential_of}
 use Rattle.rpc_msg.specs.declared.handle_form.HandleForm.TheVariants.{Plain}
 use Rattle.rpc_msg.specs.Heads.{Head, head_by}
 use Rattle.rpc_msg.specs.Records.{heard_from}
-use Rattle.rpc_msg.specs.Seen.{Tells, head_seen}
+use Rattle.rpc_msg.specs.Seen.{IsRequestOf, head_seen}
 use Rattle.rpc_msg.proofs.InPlace.{arguments-end}
 use Rattle.rpc_msg.proofs.record.read_spelled.Goals as goal
 
@@ -26,7 +26,7 @@ returns-in-Call c =
     let says = ap (head_by c.args.offer) (sym c.deref.ensures.value) ∙ sym c.read_call_of.ensures ∙ ap head_seen k.is in
     let end = arguments-end c.args.offer bytes k.xid k.procedure who k.arguments.now c.len.result (are_bytes bytes (λ i lt. omega (arith, lt))) says
     (c.len.ensures ∙ c.args.record.ok.0) in
-    subst (λ (h : Head). Tells k.xid c.request_of.result (heard_from Plain h)) (sym says)
+    subst (λ (h : Head). IsRequestOf k.xid c.request_of.result (heard_from Plain h)) (sym says)
     (c.request_of.ensures k.procedure k.arguments.now
     (subst (λ (l : List ℕ). Makes call_of (takes_memory k.procedure) c.decode_in_place-decoded.result (asked k.procedure l)) end.there
     c.decode_in_place-decoded.ensures))

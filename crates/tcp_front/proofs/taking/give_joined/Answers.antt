@@ -7,13 +7,13 @@ use Rattle.tcp_front.proofs.taking.give_joined.Goals as goal
 
 pub returns-in-Ok-clause-given : goal.returns-in-Ok-clause-given
 returns-in-Ok-clause-given g c =
-    let record = c.args.record.items in
+    let made = c.args.record.items in
     let is = c.in-Ok.is ∙ ap (λ (h : Heard). Ok h) (sym c.put_heard.ensures) in
-    c.give_read.ensures.given c.args.offer record
-    (subst (λ (r : Result Heard RecordFault). Hears r (heard_by c.args.offer record)) is c.read_record_of.ensures)
+    c.give_read.ensures.given c.args.offer made
+    (subst (λ (r : Result Heard RecordFault). Hears r (heard_by c.args.offer made)) is c.read_record_of.ensures)
 
 pub returns-in-Err-clause-given : goal.returns-in-Err-clause-given
 returns-in-Err-clause-given g c =
-    let record = c.args.record.items in
-    c.give_read-in-Err.ensures.given c.args.offer record
-    (subst (λ (r : Result Heard RecordFault). Hears r (heard_by c.args.offer record)) c.in-Err.is c.read_record_of.ensures)
+    let made = c.args.record.items in
+    c.give_read-in-Err.ensures.given c.args.offer made
+    (subst (λ (r : Result Heard RecordFault). Hears r (heard_by c.args.offer made)) c.in-Err.is c.read_record_of.ensures)
