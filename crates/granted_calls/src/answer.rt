@@ -5,6 +5,7 @@ ghost use Rattle.nfs_values.specs.Reply.{reply_of};
 ghost use Rattle.outboxes.specs.Boxes.{addressed, put};
 ghost use Rattle.outboxes.specs.Messages.{message, record_of};
 
+use crate::spent::Spent;
 use nfs_values::{ConnectionNumber, Reply};
 use outboxes::{AddressedRecord, Outboxes, Room};
 use std::marker::Model;
@@ -14,6 +15,7 @@ use std::marker::Model;
 /// into outboxes.
 pub struct Answer {
     reply: AddressedRecord,
+    spent: Spent,
 }
 
 impl Model for Answer {
@@ -31,12 +33,14 @@ impl Answer {
         xid: u32,
         reply: &mut Reply,
         room: Room,
+        spent: Spent,
     ) -> Answer
         requires { length (record_of (message xid (reply_of reply.old))) ≤ room }
         ensures { result ≡ addressed connection.0 (message xid (reply_of reply.old)) }
     {
         Answer {
             reply: AddressedRecord::new(connection, xid, reply, room),
+            spent,
         }
     }
 
@@ -55,11 +59,12 @@ impl Answer {
     }
 
     /// Puts it behind what waits for its connection. Nothing changes where that isn't open. It
-    /// takes no memory.
-    pub fn put_into(self, outboxes: &mut Outboxes)
+    /// takes no memory, and gives back that of its call.
+    pub fn put_into(self, outboxes: &mut Outboxes) -> Spent
         ensures { outboxes.new ≡ put self outboxes.old }
     {
-        let Answer { reply } = self;
+        let Answer { reply, spent } = self;
         outboxes.put(reply);
+        spent
     }
 }

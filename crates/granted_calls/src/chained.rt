@@ -65,7 +65,7 @@ impl AnswerSink for Outboxes {
     ghost took = { HasPutAll };
 
     fn take_answer(&mut self, answer: Answer) {
-        answer.put_into(self);
+        drop(answer.put_into(self));
     }
 
     ghost took_none = { put_none };

@@ -11,7 +11,7 @@ ghost use Rattle.granted_calls.specs.Served.{served_of_message};
 
 use crate::answer::Answer;
 use crate::envelope::Envelope;
-use crate::telling::let_go;
+use crate::spent::Spent;
 use nfs_values::{Moment, Reply};
 use outboxes::Room;
 use rpc_msg::{HandleForm, tell};
@@ -59,7 +59,7 @@ pub(crate) fn answered(entry: Entry, told: &mut Reply, handles: HandleForm) -> A
         served,
         room,
     } = entry;
-    let_go(served);
+    let spent = Spent::of(served);
     tell(told, handles);
-    Answer::new(origin.connection, origin.xid, told, room)
+    Answer::new(origin.connection, origin.xid, told, room, spent)
 }

@@ -7,6 +7,7 @@ ghost use Rattle.scheduler.specs.Messages.{message_at};
 ghost use Rattle.granted_calls.specs.Messages.{readdressed};
 
 use crate::shared_waiting::Fitting;
+use crate::spent::Spent;
 use affinity::{Affinity, CallNode, Layout};
 use nfs_values::{Call, Caller, Moment};
 use outboxes::Room;
@@ -40,10 +41,11 @@ impl Fitting<Layout> for Envelope {
 }
 
 impl Envelope {
-    /// A message in memory of its own, with room for its reply. The call that was read is moved to
-    /// there.
+    /// A message in memory of its own, or in that of a call that was finished, with room for its
+    /// reply. The call that was read is moved to there.
     pub fn new(
         alloc: Global,
+        spent: Option<Spent>,
         origin: Origin,
         asked: &mut Asked,
         affinity: CallNode,
@@ -64,12 +66,18 @@ impl Envelope {
             moment: Moment::START,
             starved: false,
         };
-        match Box::new(alloc, served) {
-            Ok(served) => Ok(Envelope { served, room }),
-            Err(refused) => {
-                drop(refused);
-                Err(AllocError)
-            }
+        match spent {
+            Some(spent) => Ok(Envelope {
+                served: spent.with(served),
+                room,
+            }),
+            None => match Box::new(alloc, served) {
+                Ok(served) => Ok(Envelope { served, room }),
+                Err(refused) => {
+                    drop(refused);
+                    Err(AllocError)
+                }
+            },
         }
     }
 

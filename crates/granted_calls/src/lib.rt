@@ -18,6 +18,7 @@ mod serving;
 mod shared;
 mod shared_outboxes;
 pub mod shared_waiting;
+mod spent;
 mod telling;
 mod turned;
 
@@ -28,4 +29,5 @@ pub use envelope::Envelope;
 pub use serving::run_message;
 pub use shared::Filer;
 pub use shared_outboxes::{OutboxesPass, SharedOutboxes};
+pub use spent::Spent;
 pub use turned::{Gate, Place, Served, Stage, Turn, Unwatched};

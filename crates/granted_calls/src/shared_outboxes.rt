@@ -129,7 +129,7 @@ impl SharedOutboxes {
         ensures put { (b : Boxes) × HasChanged (known pass.old) b (put answer b) (known pass.new) }
     {
         let mut outboxes = self.take_out(rt, pass);
-        answer.put_into(&mut outboxes);
+        drop(answer.put_into(&mut outboxes));
         give(&self.place, rt, pass, outboxes);
     }
 

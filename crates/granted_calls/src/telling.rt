@@ -1,12 +1,11 @@
-//! What is told of an entry, in a place of its own, and calls that are done with. What has no
-//! memory of its own isn't moved to be dropped.
+//! What is told of an entry, in a place of its own. What has no memory of its own isn't moved to be
+//! dropped.
 
 ghost use Rattle.std.specs.Prelude.{◌≡◌};
 ghost use Rattle.nfs_values.specs.declared.reply.Refusal.TheVariants.{SystemError};
 ghost use Rattle.nfs_values.specs.declared.reply.Reply.TheVariants.{Refused};
 
 use nfs_values::{Refusal, Reply};
-use service::ServedCall;
 use std::mem;
 
 /// Whether what is told has memory of its own.
@@ -48,14 +47,5 @@ pub(crate) fn forget(told: Reply) {
         drop(told);
     } else {
         mem::forget(told);
-    }
-}
-
-/// Drops the call of an entry.
-pub(crate) fn let_go(served: Box<ServedCall>) {
-    if served.call.has_memory() {
-        drop(served);
-    } else {
-        mem::forget(Box::into_inner(served));
     }
 }

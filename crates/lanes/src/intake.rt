@@ -7,12 +7,12 @@ ghost use Rattle.turns.specs.Words.{TakesFrom};
 ghost use Rattle.lanes.specs.Queues.{HasBoth, IsCounted};
 
 use crate::placing::put_last;
+use crate::replies::Replies;
 use affinity::{CallNode, Layout};
 use connections::Due;
 use granted_calls::shared_waiting::{Pass, SharedWaiting};
 use granted_calls::{Envelope, Filer};
 use nfs_values::{Call, ConnectionNumber, Reply};
-use outboxes::Outboxes;
 use rpc_msg::{Asked, HandleForm, tell};
 use scheduler::Origin;
 use service::Ahead;
@@ -37,7 +37,7 @@ pub struct Intake<R> {
     pub(crate) queue: SharedWaiting<Envelope, Layout>,
     pub(crate) pass: Pass<Envelope, Layout>,
     pub(crate) worker: Worker,
-    pub(crate) outboxes: Outboxes,
+    pub(crate) outboxes: Replies,
     /// How many messages were admitted and not finished: those in the queue, and the one that the
     /// worker keeps, if it keeps one.
     pub(crate) waiting: usize,
@@ -102,7 +102,8 @@ impl<R: Wait> RecordSink for Intake<R> {
     ) -> Result<(), AllocError> {
         let leaving = u64::from(may_leave_blocks(affinity, &asked.call));
         self.ahead.note(&asked.call);
-        let message = Envelope::new(self.alloc, origin, asked, affinity, reply_bound)?;
+        let spent = self.outboxes.take_spare();
+        let message = Envelope::new(self.alloc, spent, origin, asked, affinity, reply_bound)?;
         put_last(
             &self.queue,
             &mut self.pass,
@@ -124,7 +125,7 @@ impl<R: Wait> RecordSink for Intake<R> {
     ) -> Result<(), AllocError> {
         let kind = ReplyKind::of(reply);
         tell(reply, self.handles);
-        self.outboxes.put_at_once(connection, xid, reply)?;
+        self.outboxes.boxes.put_at_once(connection, xid, reply)?;
         self.owed.add(0);
         self.at_once.count(kind);
         Ok(())

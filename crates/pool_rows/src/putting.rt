@@ -41,7 +41,10 @@ fn message_of(
         number: xid as usize,
         xid,
     };
-    Envelope::new(rt.alloc(), origin, &mut asked, affinity, reply_bound).expect(rt, "no memory")
+    Envelope::new(rt.alloc(), None, origin, &mut asked, affinity, reply_bound).expect(
+        rt,
+        "no memory",
+    )
 }
 
 /// Puts a message. Where the queue is full it tries again until there is a place.

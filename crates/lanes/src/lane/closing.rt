@@ -56,7 +56,7 @@ impl<D: Device, R> Lane<D, R> {
         ensures filer { filer_in self.new ≡ filer_in self.old }
         ensures identity { identity_in self.new ≡ identity_in self.old }
     {
-        match close_under(&mut self.connections, key, &mut self.intake.outboxes) {
+        match close_under(&mut self.connections, key, &mut self.intake.outboxes.boxes) {
             Some(connection) => {
                 self.closed = self.closed.and(&connection);
                 Some(connection.into_device())

@@ -2,6 +2,7 @@
 
 use crate::intake::Intake;
 use crate::lane::Lane;
+use crate::replies::Replies;
 use affinity::Layout;
 use connections::{Device, Due, open_under};
 use granted_calls::shared_waiting::{Pass, SharedWaiting};
@@ -74,7 +75,10 @@ impl<D: Device, R> Lane<D, R> {
                 queue,
                 pass,
                 worker,
-                outboxes: Outboxes::with_room_for(alloc, most_open, lane, lanes),
+                outboxes: Replies::new(
+                    alloc,
+                    Outboxes::with_room_for(alloc, most_open, lane, lanes),
+                ),
                 waiting: 0,
                 most: MOST_WAITING / lanes,
                 owed: Due::nothing(),
@@ -110,7 +114,7 @@ impl<D: Device, R> Lane<D, R> {
         open_under(
             &mut self.connections,
             self.intake.alloc,
-            &mut self.intake.outboxes,
+            &mut self.intake.outboxes.boxes,
             device,
             peer,
         )

@@ -26,7 +26,7 @@ impl<D: Device, R> Lane<D, R> {
         write_under(
             &mut self.connections,
             key,
-            &mut self.intake.outboxes,
+            &mut self.intake.outboxes.boxes,
             buffer,
         )
     }
