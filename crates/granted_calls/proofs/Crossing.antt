@@ -14,6 +14,7 @@ use Rattle.granted_calls.proofs.moments.Moments.TheSendSync as moments
 use Rattle.granted_calls.specs.contracts.envelope.Envelope as Envelope
 use Rattle.granted_calls.specs.contracts.envelope.Envelope.TheInside as EnvelopeInside
 use Rattle.granted_calls.specs.contracts.shared.Filer as Filer
+use Rattle.granted_calls.specs.contracts.spent.Spent as Spent
 use Rattle.granted_calls.specs.contracts.shared_outboxes.SharedOutboxes as SharedOutboxes
 use Rattle.granted_calls.proofs.crossings.Structs.{struct-send}
 use Rattle.granted_calls.proofs.crossings.Outboxes.{room-send, outboxes-send}
@@ -27,6 +28,9 @@ envelope-inside-send = struct-send EnvelopeInside.the_type (Box-send ServedCall.
 
 pub envelope-send : IsSend Envelope.the_row
 envelope-send = view_send EnvelopeInside.the_row _ _ _ _ envelope-inside-send
+
+pub spent-send : IsSend Spent.the_row
+spent-send = declared_send Spent.the_type (Box-send ServedCall.the_row served-send, tt)
 
 pub filer-send : IsSend Filer.the_row
 filer-send = declared_send Filer.the_type (

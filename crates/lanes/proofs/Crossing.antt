@@ -17,7 +17,7 @@ use Rattle.outboxes.specs.contracts.numbered_reply.NumberedReply as NumberedRepl
 use Rattle.outboxes.specs.contracts.numbered_reply.NumberedReply.TheInside as NumberedReplyInside
 use Rattle.granted_calls.proofs.crossings.Outboxes.{outboxes-send}
 use Rattle.granted_calls.proofs.crossings.Structs.{struct-send}
-use Rattle.granted_calls.proofs.Crossing.{envelope-send, filer-send, filer-sync}
+use Rattle.granted_calls.proofs.Crossing.{envelope-send, filer-send, filer-sync, spent-send}
 use Rattle.turns.proofs.Crossing.{worker-send}
 use Rattle.granted_calls.proofs.shared_waiting.pass.Pass.TheSendSync as pass
 use Rattle.granted_calls.proofs.shared_waiting.pass.SharedWaiting.TheSendSync as waiting
@@ -28,6 +28,8 @@ use Rattle.connections.proofs.watched.Watched.TheSendSync as watched
 use Rattle.connections.specs.contracts.connection.Connection as Connection
 use Rattle.lanes.specs.contracts.intake.Intake as Intake
 use Rattle.lanes.specs.contracts.lane.Lane as Lane
+use Rattle.lanes.specs.contracts.replies.Replies as Replies
+use Rattle.lanes.specs.contracts.replies.Replies.TheInside as RepliesInside
 use Rattle.connections.specs.contracts.rest.Rest as Rest
 use Rattle.connections.specs.contracts.rest.Rest.TheInside as RestInside
 use Rattle.connections.specs.declared.device.Device as devices
@@ -64,6 +66,10 @@ connection-send D d = declared_send (Connection.the_type D) (
   ),
 )
 
+replies-send : IsSend Replies.the_row
+replies-send = view_send RepliesInside.the_row _ _ _ _
+    (struct-send RepliesInside.the_type (search (outboxes-send, sendable) depth 20, (search (spent-send, crosses, sendable) depth 20, tt)))
+
 intake-send : (R : RattleType) → IsSend R → IsSend (Intake.the_row R)
 intake-send R r = declared_send (Intake.the_type R) (
   search (r, sendable) depth 20,
@@ -78,7 +84,7 @@ intake-send R r = declared_send (Intake.the_type R) (
           (
             search (worker-send, sendable) depth 20,
             (
-              search (outboxes-send, sendable) depth 20,
+              search (replies-send, sendable) depth 20,
               (
                 search sendable depth 20,
                 (
