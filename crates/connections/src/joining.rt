@@ -36,6 +36,7 @@ pub(crate) fn join(
             return Some(record);
         }
         keep(buffer, record.as_slice());
+        outboxes.give_back(record);
     }
     None
 }

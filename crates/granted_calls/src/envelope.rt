@@ -1,8 +1,7 @@
 //! Messages in memory of their own.
 
-ghost use Rattle.std.specs.Prelude.{◌≡◌, ◌≤◌, IfOk};
+ghost use Rattle.std.specs.Prelude.{◌≡◌, IfOk};
 ghost use Rattle.affinity.specs.Affinity.{call_affinity};
-ghost use Rattle.outboxes.specs.Boxes.{most_bytes};
 ghost use Rattle.scheduler.specs.Messages.{message_at};
 ghost use Rattle.granted_calls.specs.Messages.{readdressed};
 
@@ -49,13 +48,11 @@ impl Envelope {
         origin: Origin,
         asked: &mut Asked,
         affinity: CallNode,
-        reply_bound: usize,
+        room: Room,
     ) -> Result<Envelope, AllocError>
-        requires { reply_bound ≤ most_bytes }
         ensures { IfOk result (λ envelope. envelope
-            ≡ message_at origin asked.old.call asked.old.caller affinity reply_bound) }
+            ≡ message_at origin asked.old.call asked.old.caller affinity room) }
     {
-        let room = Room::new(alloc, reply_bound)?;
         let served = ServedCall {
             connection: origin.connection,
             number: origin.number,

@@ -2,7 +2,7 @@
 use denote.RattleType.{RattleType}
 use denote.Param.Send.{IsSend, sendable, view_send}
 use denote.Param.SendFields.{declared_send}
-use Rattle.std.proofs.Crossing.{crosses, send, frees}
+use Rattle.std.proofs.Crossing.{crosses, send, frees, Box-send}
 use Rattle.slab.proofs.Slab.TheSendSync as slab
 use Rattle.histories.proofs.history.History.TheSendSync as history
 use Rattle.statistics.proofs.counts.ReplyCounts.TheSendSync as counts
@@ -13,9 +13,8 @@ use Rattle.tcp_front.proofs.stream.Stopped.TheSendSync as stopped
 use Rattle.tcp_front.proofs.stream.Stream.TheSendSync as stream
 use Rattle.outboxes.specs.contracts.record.Record as Record
 use Rattle.outboxes.specs.contracts.record.Record.TheInside as RecordInside
-use Rattle.outboxes.specs.contracts.numbered_reply.NumberedReply as NumberedReply
-use Rattle.outboxes.specs.contracts.numbered_reply.NumberedReply.TheInside as NumberedReplyInside
-use Rattle.granted_calls.proofs.crossings.Outboxes.{outboxes-send}
+use Rattle.outboxes.specs.contracts.chain.Link as Link
+use Rattle.granted_calls.proofs.crossings.Outboxes.{link-send, outboxes-send}
 use Rattle.granted_calls.proofs.crossings.Structs.{struct-send}
 use Rattle.granted_calls.proofs.Crossing.{envelope-send, filer-send, filer-sync, spent-send}
 use Rattle.turns.proofs.Crossing.{worker-send}
@@ -34,12 +33,8 @@ use Rattle.connections.specs.contracts.rest.Rest as Rest
 use Rattle.connections.specs.contracts.rest.Rest.TheInside as RestInside
 use Rattle.connections.specs.declared.device.Device as devices
 
-numbered-send : IsSend NumberedReply.the_row
-numbered-send = view_send NumberedReplyInside.the_row _ _ _ _
-    (struct-send NumberedReplyInside.the_type (search sendable depth 20, (search (crosses, sendable) depth 20, tt)))
-
 record-send : IsSend Record.the_row
-record-send = view_send RecordInside.the_row _ _ _ _ (struct-send RecordInside.the_type (search (crosses, sendable) depth 20, (numbered-send, tt)))
+record-send = view_send RecordInside.the_row _ _ _ _ (struct-send RecordInside.the_type (Box-send Link.the_row link-send, tt))
 
 rest-send : IsSend Rest.the_row
 rest-send = view_send RestInside.the_row _ _ _ _

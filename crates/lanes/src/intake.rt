@@ -102,8 +102,9 @@ impl<R: Wait> RecordSink for Intake<R> {
     ) -> Result<(), AllocError> {
         let leaving = u64::from(may_leave_blocks(affinity, &asked.call));
         self.ahead.note(&asked.call);
+        let room = self.outboxes.boxes.room(reply_bound)?;
         let spent = self.outboxes.take_spare();
-        let message = Envelope::new(self.alloc, spent, origin, asked, affinity, reply_bound)?;
+        let message = Envelope::new(self.alloc, spent, origin, asked, affinity, room)?;
         put_last(
             &self.queue,
             &mut self.pass,

@@ -54,14 +54,7 @@ impl Outbox {
             self.front = mem::replace(&mut self.back, Chain::new()).reversed();
         }
         match self.front.pop() {
-            Some(link) => {
-                let Link {
-                    bytes,
-                    numbered,
-                    rest: _,
-                } = Box::into_inner(link);
-                Some(Record::new(bytes, numbered))
-            }
+            Some(link) => Some(Record::new(link)),
             None => None,
         }
     }

@@ -35,6 +35,7 @@ use crate::link::{blank, write};
 use crate::outbox::Outbox;
 use crate::record::Record;
 use crate::refusal::OpenRefusal;
+use crate::room::Room;
 use nfs_values::{ConnectionNumber, Reply};
 use std::alloc::{AllocError, Global};
 use std::collections::BTreeMap;
@@ -46,10 +47,18 @@ const MOST_OPEN: usize = 64;
 /// The most numbers that are given.
 const MOST_NUMBERS: usize = 1 << 62;
 
+/// Of how many records that went out the memory is kept.
+const MOST_SPARE: usize = 64;
+
+/// How many bytes each of these has room for at most.
+const MOST_SPARE_BYTES: usize = 16_384;
+
 /// The records that wait for each connection that is open.
 pub struct Outboxes {
     alloc: Global,
     by_number: BTreeMap<usize, Outbox>,
+    /// The memory of records that went out, for those to come.
+    spare: Vec<Room>,
     /// How many connections may be open.
     most: usize,
     next: usize,
@@ -63,6 +72,7 @@ impl Drop for Outboxes {
         let Outboxes {
             alloc: _,
             by_number: _,
+            spare: _,
             most: _,
             next: _,
             step: _,
@@ -116,6 +126,7 @@ impl Outboxes {
         Outboxes {
             alloc,
             by_number: BTreeMap::new(alloc),
+            spare: Vec::new(alloc),
             most,
             next: lane,
             step: lanes,
@@ -157,6 +168,30 @@ impl Outboxes {
         ensures { self.new ≡ shut connection.0 self.old }
     {
         let _closed = self.by_number.remove(&connection.0);
+    }
+
+    /// Room for a record of this many bytes (`rpc_msg::room_of_reply`), at most 131,072, in the
+    /// memory of one that went out, if there is some.
+    pub fn room(&mut self, bytes: usize) -> Result<Room, AllocError>
+        requires { bytes ≤ most_bytes }
+        ensures room { IfOk result (λ room. room ≡ bytes) }
+        ensures same { self.new ≡ self.old }
+    {
+        match self.spare.pop() {
+            Some(room) => room.widened(bytes),
+            None => Room::new(self.alloc, bytes),
+        }
+    }
+
+    /// Keeps the memory of a record that went out, for one to come: of at most 64 records, and none
+    /// of more than 16 KiB.
+    pub fn give_back(&mut self, record: Record)
+        ensures { self.new ≡ self.old }
+    {
+        if self.spare.len() < MOST_SPARE && record.room() <= MOST_SPARE_BYTES {
+            // Where there is no memory for more, it is dropped.
+            let _kept = self.spare.push(Room::of(record));
+        }
     }
 
     /// Puts a record behind what waits for its connection. Nothing changes where that isn't open.

@@ -3,14 +3,19 @@
 ghost use Rattle.std.specs.Prelude.{◌≡◌, ◌≤◌, length};
 ghost use Rattle.outboxes.specs.Messages.{record_of};
 
-use crate::numbered_reply::NumberedReply;
+use crate::chain::Link;
 use std::marker::Model;
 
 /// The record of a reply, to be written to its connection.
-#[derive(Drop)]
 pub struct Record {
-    bytes: Vec<u8>,
-    numbered: NumberedReply,
+    link: Box<Link>,
+}
+
+// By hand, so that crates above have no proof of the drop of each of its parts.
+impl Drop for Record {
+    fn drop(self) {
+        let Record { link: _ } = self;
+    }
 }
 
 impl Model for Record {
@@ -19,9 +24,9 @@ impl Model for Record {
 
     ghost Value = { ReplyMessage };
 
-    ghost view = { λ r. r.numbered };
+    ghost view = { λ r. r.link.value.numbered };
 
-    ghost invariant = { λ r. r.bytes.items ≡ record_of r.numbered };
+    ghost invariant = { λ r. r.link.value.bytes.items ≡ record_of r.link.value.numbered };
 }
 
 impl Record {
@@ -29,21 +34,27 @@ impl Record {
     pub fn as_slice(&self) -> &[u8]
         ensures { result.now ≡ record_of self.now }
     {
-        &self.bytes
+        &self.link.bytes
     }
 
     /// How many bytes it has room for.
     pub fn room(&self) -> usize
         ensures { length (record_of self.now) ≤ result }
     {
-        self.bytes.capacity()
+        self.link.bytes.capacity()
     }
 
-    /// A record of these bytes, which spell what it says.
-    pub(crate) fn new(bytes: Vec<u8>, numbered: NumberedReply) -> Record
-        requires { bytes.items ≡ record_of numbered }
-        ensures { result ≡ numbered }
+    /// A record whose bytes spell what it says.
+    pub(crate) fn new(link: Box<Link>) -> Record
+        requires { link.value.bytes.items ≡ record_of link.value.numbered }
+        ensures { result ≡ link.value.numbered }
     {
-        Record { bytes, numbered }
+        Record { link }
+    }
+
+    /// Its memory.
+    pub(crate) fn into_link(self) -> Box<Link> {
+        let Record { link } = self;
+        link
     }
 }

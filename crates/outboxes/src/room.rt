@@ -8,6 +8,7 @@ ghost use Rattle.outboxes.specs.Popped.{IsOf};
 
 use crate::chain::Link;
 use crate::link::{blank, move_in};
+use crate::record::Record;
 use nfs_values::Reply;
 use std::alloc::{AllocError, Global};
 use std::marker::Model;
@@ -47,6 +48,26 @@ impl Room {
             link: blank(alloc, bytes)?,
             bytes,
         })
+    }
+
+    /// The memory of a record that went out, as room for no bytes.
+    pub(crate) fn of(record: Record) -> Room
+        ensures { result ≡ 0 }
+    {
+        let mut link = record.into_link();
+        link.bytes.clear();
+        Room { link, bytes: 0 }
+    }
+
+    /// Room for a record of this many bytes in the same memory, to which more is added where it has
+    /// less.
+    pub(crate) fn widened(self, bytes: usize) -> Result<Room, AllocError>
+        requires { bytes ≤ most_bytes }
+        ensures { IfOk result (λ room. room ≡ bytes) }
+    {
+        let Room { mut link, bytes: _ } = self;
+        link.bytes.try_reserve_exact(bytes)?;
+        Ok(Room { link, bytes })
     }
 
     /// The record of a reply, in this room, but for the bytes of a READ, which stay in theirs. The

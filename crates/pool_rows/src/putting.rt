@@ -10,6 +10,7 @@ use affinity::homes::home_of;
 use granted_calls::shared_waiting::Pass;
 use granted_calls::{Envelope, Filer};
 use nfs_values::{Caller, ConnectionNumber};
+use outboxes::Room;
 use rpc_msg::{Asked, room_of_reply};
 use scheduler::Origin;
 use std::process::Abort;
@@ -41,10 +42,8 @@ fn message_of(
         number: xid as usize,
         xid,
     };
-    Envelope::new(rt.alloc(), None, origin, &mut asked, affinity, reply_bound).expect(
-        rt,
-        "no memory",
-    )
+    let room = Room::new(rt.alloc(), reply_bound).expect(rt, "no memory");
+    Envelope::new(rt.alloc(), None, origin, &mut asked, affinity, room).expect(rt, "no memory")
 }
 
 /// Puts a message. Where the queue is full it tries again until there is a place.

@@ -25,7 +25,7 @@ numbered-send = view_send NumberedReplyInside.the_row _ _ _ _ numbered-inside-se
 chain-send : IsSend Chain.the_row
 chain-send = send-Chain (λ h it. search (it, crosses, sendable)) (search (crosses, sendable) depth 20) (as_row_send NumberedReply.the_field numbered-send)
 
-link-send : IsSend Link.the_row
+pub link-send : IsSend Link.the_row
 link-send = struct-send Link.the_type (search (crosses, sendable) depth 20, (numbered-send, (chain-send, tt)))
 
 outbox-inside-send : IsSend OutboxInside.the_row
@@ -43,7 +43,13 @@ room-send = view_send RoomInside.the_row _ _ _ _ room-inside-send
 outboxes-inside-send : IsSend OutboxesInside.the_row
 outboxes-inside-send = struct-send OutboxesInside.the_type (
   search sendable depth 20,
-  (search (outbox-send, BTreeMap-send, crosses, sendable) depth 20, (search sendable depth 20, (search sendable depth 20, (search sendable depth 20, tt)))),
+  (
+    search (outbox-send, BTreeMap-send, crosses, sendable) depth 20,
+    (
+      search (room-send, crosses, sendable) depth 20,
+      (search sendable depth 20, (search sendable depth 20, (search sendable depth 20, tt))),
+    ),
+  ),
 )
 
 pub outboxes-send : IsSend Outboxes.the_row

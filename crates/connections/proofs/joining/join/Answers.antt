@@ -3,7 +3,7 @@ use Rattle.connections.specs.Joining.{HasJoined}
 use Rattle.connections.specs.Taking.{Takes}
 use Rattle.connections.specs.lemmas.Taking.{takes-fewer, waits}
 use Rattle.connections.proofs.OneWrite.{joined-all, joined-alone, joined-more, paid-more}
-use Rattle.std.proofs.Common.{◌∷◌, ◌++◌, [], Some, None, sym, ◌≡◌, rules, subst, ◌<◌}
+use Rattle.std.proofs.Common.{◌∷◌, ◌++◌, [], Some, None, sym, ◌≡◌, ◌∙◌, rules, subst, ◌<◌}
 use Rattle.connections.proofs.joining.join.Goals as goal
 
 pub returns-then-size-gt-MOST_COPIED : goal.returns-then-size-gt-MOST_COPIED
@@ -17,7 +17,7 @@ returns-then-size-gt-MOST_COPIED c =
 
 pub loop-record-smaller : goal.loop-record-smaller
 loop-record-smaller c =
-    subst (λ (b : Boxes). waits c.args.connection.0 b < waits c.args.connection.0 c.loop-record.outboxes) (sym c.take.ensures.rest)
+    subst (λ (b : Boxes). waits c.args.connection.0 b < waits c.args.connection.0 c.loop-record.outboxes) (sym (c.give_back.ensures ∙ c.take.ensures.rest))
     (takes-fewer c.args.connection.0 c.loop-record.outboxes c.in-Some.record c.in-Some.ensures.record)
 
 pub loop-record-preserved : goal.loop-record-preserved
@@ -28,7 +28,7 @@ loop-record-preserved c =
     c.loop-record.buffer.items c.args.owed.now c.loop-record.owed so.0 so.1 so.2 so.3 m _ _ c.in-Some.ensures.record c.as_slice.ensures
     c.keep.ensures in (
       so.0 ++ m ∷ [],
-      subst (λ (b : Boxes). Takes c.args.connection.0 (so.0 ++ m ∷ []) c.args.outboxes.now b) (sym c.take.ensures.rest) more.0,
+      subst (λ (b : Boxes). Takes c.args.connection.0 (so.0 ++ m ∷ []) c.args.outboxes.now b) (sym (c.give_back.ensures ∙ c.take.ensures.rest)) more.0,
       paid-more c.args.connection.0 c.args.outboxes.now c.loop-record.outboxes c.args.buffer.now.items c.loop-record.buffer.items
           c.args.owed.now c.loop-record.owed so.0 so.1 so.2 so.3 m c.room.result c.take-in-Some.new.self c.room.ensures c.take-in-Some.ensures,
       more.1,
