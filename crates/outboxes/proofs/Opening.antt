@@ -1,5 +1,7 @@
--- When no connection can be opened.
+-- When no connection can be opened, and which number is next.
 use Rattle.std.proofs.Common.{◌≡◌, ◌≤◌, ◌<◌, ℕ, ◌^◌, Bool, true, false, List, Result, Ok, Err, refl, sym, ap, ◌∙◌, length, arith, inl, inr}
+use Rattle.std.specs.Prelude.{◌+◌, ◌%◌}
+use Rattle.std.proofs.Math.Nat.{add-mod_right}
 use Rattle.std.proofs.lemmas.Bool.{false≢true}
 use Rattle.std.specs.List.Sorted.{IsStrictlySortedBy}
 use Rattle.std.specs.Map.{keys_of}
@@ -42,3 +44,7 @@ neither-opened b connection n = neither b (Ok connection) refl n
 pub neither-refused : (b : Boxes) (refusal : OpenRefusal) → refusal ≡ NoMemory → (IsFull b → ⊥)
     → (Err refusal ≡ full → IsFull b) × (IsFull b → Err refusal ≡ full)
 neither-refused b refusal e n = neither b (Err refusal) (ap (λ (x : OpenRefusal). is_told_full (Err x)) e) n
+
+-- the number after one of a lane is of that lane too
+pub of-lane-after : (next step lane lanes : ℕ) → step ≡ lanes → next % lanes ≡ lane → (next + step) % lanes ≡ lane
+of-lane-after next step lane lanes is at = ap (λ (k : ℕ). (next + k) % lanes) is ∙ add-mod_right next lanes ∙ at

@@ -1,6 +1,6 @@
 use Rattle.std.proofs.Common.{refl}
 use Rattle.outboxes.specs.Tables.{boxes_of}
-use Rattle.outboxes.proofs.Opening.{full-by-count, not-full, neither-opened, neither-refused}
+use Rattle.outboxes.proofs.Opening.{full-by-count, not-full, neither-opened, neither-refused, of-lane-after}
 use Rattle.outboxes.proofs.Tables.{fresh, opens, rises}
 use Rattle.outboxes.proofs.outboxes.Outboxes.open.Goals as goal
 
@@ -57,3 +57,7 @@ returns-in-Ok-clause-rises c = rw (← c.self.view_is) (rises c.self.inside.next
 
 pub returns-in-Err-clause-rises : goal.returns-in-Err-clause-rises
 returns-in-Err-clause-rises c = rw (← c.self.view_is) (rises c.self.inside.next c.self.inside.step c.self.invariant.1.0)
+
+pub returns-in-Ok-clause-lane : goal.returns-in-Ok-clause-lane
+returns-in-Ok-clause-lane c =
+    rw (← c.self.view_is) (λ lane lanes of. (of.1, (of.0, of-lane-after c.self.inside.next c.self.inside.step lane lanes of.0 of.1)))
