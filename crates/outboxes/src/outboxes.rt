@@ -48,10 +48,10 @@ const MOST_OPEN: usize = 64;
 const MOST_NUMBERS: usize = 1 << 62;
 
 /// Of how many records that went out the memory is kept.
-const MOST_SPARE: usize = 64;
+const MOST_SPARE: usize = 256;
 
-/// How many bytes each of these has room for at most.
-const MOST_SPARE_BYTES: usize = 16_384;
+/// How many bytes each of these has room for at most: a READ of 4 KiB, and what stands before it.
+const MOST_SPARE_BYTES: usize = 4_352;
 
 /// The records that wait for each connection that is open.
 pub struct Outboxes {
@@ -183,8 +183,8 @@ impl Outboxes {
         }
     }
 
-    /// Keeps the memory of a record that went out, for one to come: of at most 64 records, and none
-    /// of more than 16 KiB.
+    /// Keeps the memory of a record that went out, for one to come: of at most 256 records, and none
+    /// with room for more than 4,352 bytes.
     pub fn give_back(&mut self, record: Record)
         ensures { self.new ≡ self.old }
     {
