@@ -183,8 +183,8 @@ impl Outboxes {
         }
     }
 
-    /// Keeps the memory of a record that went out, for one to come: of at most 256 records, and none
-    /// with room for more than 4,352 bytes.
+    /// Keeps the memory of a record that went out, for one to come: of at most 256 records, none of
+    /// which has room for more than 4,352 bytes.
     pub fn give_back(&mut self, record: Record)
         ensures { self.new ≡ self.old }
     {

@@ -54,8 +54,8 @@ pub trait RecordSink {
         requires at_home { home (layout self.old) (call_of asked.old.call)
             ≡ Some (call_node affinity) }
         requires short { reply_bound ≤ most_bytes }
-        ensures ok { OnOk result (came self.old (Waits (message_of
-            (message_at origin asked.old.call asked.old.caller affinity reply_bound)) ∷ []) self.new) }
+        ensures ok { OnOk result (came self.old (Waits (message_of (message_at origin
+            asked.old.call asked.old.caller affinity reply_bound)) ∷ []) self.new) }
         ensures err { OnErr result (came self.old [] self.new) }
         ensures layout { layout self.new ≡ layout self.old };
 
