@@ -102,9 +102,9 @@ impl<R: Wait> RecordSink for Intake<R> {
     ) -> Result<(), AllocError> {
         let leaving = u64::from(may_leave_blocks(affinity, &asked.call));
         self.ahead.note(&asked.call);
-        let room = self.outboxes.boxes.room(reply_bound)?;
-        let spent = self.outboxes.take_spare();
-        let message = Envelope::new(self.alloc, spent, origin, asked, affinity, room)?;
+        let message = self
+            .outboxes
+            .message(self.alloc, origin, asked, affinity, reply_bound)?;
         put_last(
             &self.queue,
             &mut self.pass,
@@ -126,7 +126,7 @@ impl<R: Wait> RecordSink for Intake<R> {
     ) -> Result<(), AllocError> {
         let kind = ReplyKind::of(reply);
         tell(reply, self.handles);
-        self.outboxes.boxes.put_at_once(connection, xid, reply)?;
+        self.outboxes.put_at_once(connection, xid, reply)?;
         self.owed.add(0);
         self.at_once.count(kind);
         Ok(())

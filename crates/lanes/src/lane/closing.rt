@@ -1,7 +1,8 @@
 //! Connections that are looked at and closed.
 
 use crate::lane::Lane;
-use connections::{Connection, Device, Flags, close_under, flag_under};
+use crate::replies::close_in;
+use connections::{Connection, Device, Flags, flag_under};
 
 impl<D: Device, R> Lane<D, R> {
     ghost use Rattle.std.specs.Prelude.{◌≡◌, option_copied, IfSome};
@@ -56,7 +57,7 @@ impl<D: Device, R> Lane<D, R> {
         ensures filer { filer_in self.new ≡ filer_in self.old }
         ensures identity { identity_in self.new ≡ identity_in self.old }
     {
-        match close_under(&mut self.connections, key, &mut self.intake.outboxes.boxes) {
+        match close_in(&mut self.connections, key, &mut self.intake.outboxes) {
             Some(connection) => {
                 self.closed = self.closed.and(&connection);
                 Some(connection.into_device())

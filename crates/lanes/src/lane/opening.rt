@@ -2,9 +2,9 @@
 
 use crate::intake::Intake;
 use crate::lane::Lane;
-use crate::replies::Replies;
+use crate::replies::{Replies, open_in};
 use affinity::Layout;
-use connections::{Device, Due, open_under};
+use connections::{Device, Due};
 use granted_calls::shared_waiting::{Pass, SharedWaiting};
 use granted_calls::{Envelope, Filer};
 use histories::History;
@@ -111,10 +111,10 @@ impl<D: Device, R> Lane<D, R> {
         ensures filer { filer_in self.new ≡ filer_in self.old }
         ensures identity { identity_in self.new ≡ identity_in self.old }
     {
-        open_under(
+        open_in(
             &mut self.connections,
             self.intake.alloc,
-            &mut self.intake.outboxes.boxes,
+            &mut self.intake.outboxes,
             device,
             peer,
         )

@@ -1,7 +1,8 @@
 //! Connections that are written.
 
 use crate::lane::Lane;
-use connections::{Device, Sent, write_under};
+use crate::replies::write_in;
+use connections::{Device, Sent};
 
 impl<D: Device, R> Lane<D, R> {
     ghost use Rattle.std.specs.Prelude.{◌≡◌};
@@ -23,10 +24,10 @@ impl<D: Device, R> Lane<D, R> {
         ensures filer { filer_in self.new ≡ filer_in self.old }
         ensures identity { identity_in self.new ≡ identity_in self.old }
     {
-        write_under(
+        write_in(
             &mut self.connections,
             key,
-            &mut self.intake.outboxes.boxes,
+            &mut self.intake.outboxes,
             buffer,
         )
     }

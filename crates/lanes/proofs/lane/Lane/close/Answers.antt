@@ -22,7 +22,7 @@ use Rattle.lanes.proofs.lane.Lane.close.Goals as goal
 pub invariant_of-self-in-Some : goal.invariant_of-self-in-Some
 invariant_of-self-in-Some g c =
     let l = c.args.self.now in
-    let shut = c.close_under.new in
+    let shut = c.close_in.new in
     record {
       filer_is = l.filer_is;
       inside = l.inside;
@@ -55,7 +55,7 @@ closed-none {D} unread written layout offer lane lanes entries slab slab' key me
 pub invariant_of-self-in-None : goal.invariant_of-self-in-None
 invariant_of-self-in-None g c =
     let l = c.args.self.now in
-    let shut = c.close_under.new in
+    let shut = c.close_in.new in
     record {
       filer_is = l.filer_is;
       inside = l.inside;

@@ -9,7 +9,7 @@ use Rattle.lanes.proofs.lane.Lane.open.Goals as goal
 pub invariant_of-self-2 : goal.invariant_of-self-2
 invariant_of-self-2 g c =
     let l = c.args.self.now in
-    let o = c.open_under in
+    let o = c.open_in in
     record {
       filer_is = l.filer_is;
       inside = l.inside;

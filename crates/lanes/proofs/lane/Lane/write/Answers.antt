@@ -14,9 +14,9 @@ invariant_of-self-2 g c =
       inside = l.inside;
       picked = l.picked;
       share = l.share;
-      story = writes-told _ _ (layout_in (arc_value l.filer)) l.offer l.index l.count (entries_in l.intake.worker) l.closed.items l.connections c.write_under.new.connections
+      story = writes-told _ _ (layout_in (arc_value l.filer)) l.offer l.index l.count (entries_in l.intake.worker) l.closed.items l.connections c.write_in.new.connections
           c.args.key
-          (known l.intake.pass).put l.intake.outboxes c.write_under.new.outboxes c.write_under.result c.write_under.ensures l.story;
-      owes = writes-owed _ _ (layout_in (arc_value l.filer)) l.offer l.index l.count (entries_in l.intake.worker) l.closed.items l.connections c.write_under.new.connections c.args.key
-          (known l.intake.pass).put l.intake.outboxes c.write_under.new.outboxes c.write_under.result c.write_under.ensures l.story l.owes;
+          (known l.intake.pass).put l.intake.outboxes c.write_in.new.outboxes c.write_in.result c.write_in.ensures l.story;
+      owes = writes-owed _ _ (layout_in (arc_value l.filer)) l.offer l.index l.count (entries_in l.intake.worker) l.closed.items l.connections c.write_in.new.connections c.args.key
+          (known l.intake.pass).put l.intake.outboxes c.write_in.new.outboxes c.write_in.result c.write_in.ensures l.story l.owes;
     }
