@@ -44,18 +44,6 @@ impl Block {
         Ok(Block { number, bytes })
     }
 
-    /// A block of zeros in the memory of this one.
-    pub fn zeroed(self, number: BlockNumber) -> Block
-        ensures { result ≡ zero_block number.0 }
-    {
-        let Block {
-            number: _,
-            mut bytes,
-        } = self;
-        bytes.fill(0);
-        Block { number, bytes }
-    }
-
     pub fn number(&self) -> BlockNumber
         ensures { result.0 ≡ self.now.number }
     {

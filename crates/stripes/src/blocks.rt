@@ -19,11 +19,12 @@ ghost use Rattle.stripes.specs.Spans.{
   IsFirstPast,
 };
 
+use crate::block::Block;
 use crate::freed_blocks::{FreedBlocks, GiveBack};
 use crate::span::{Span, put_zeros};
 use crate::spans::{
     SpanMap, give_back, insert_in, number_block, overwrite_in, take_from, take_in, write_in,
-    zero_tail, zeros_in,
+    zero_tail,
 };
 use nfs_values::{BLOCK_BYTES, BlockNumber, SPAN_BLOCKS, SPAN_BYTES};
 use std::alloc::{AllocError, Global};
@@ -35,8 +36,7 @@ use std::marker::Model;
 pub struct Blocks {
     alloc: Global,
     spans: SpanMap,
-    /// Spans that are no file's any more, whose memory is for blocks to come, or still to be given
-    /// back.
+    /// Spans that are no file's any more, whose memory is still to be given back.
     gone: Vec<Span>,
 }
 
@@ -108,14 +108,14 @@ impl Blocks {
         overwrite_in(&mut self.spans, fileid, offset, written)
     }
 
-    /// Fills a block with zeros. Its memory may be that of a block which a cut took.
+    /// Fills a block with zeros.
     pub fn insert(&mut self, fileid: u64, block: u64, number: BlockNumber) -> Result<(), AllocError>
         ensures ok { OnOk result
             (self.new ≡ insert self.old (fileid, block) (zero_block number.0)) }
         ensures err { OnErr result (self.new ≡ self.old) }
         ensures long { IsLong self.new }
     {
-        let zeros = zeros_in(&mut self.gone, self.alloc, number)?;
+        let zeros = Block::zero(self.alloc, number)?;
         insert_in(&mut self.spans, self.alloc, fileid, block, zeros)
     }
 

@@ -10,7 +10,7 @@ use std::marker::Model;
 /// When the memory of the blocks that a cut takes is given back.
 #[derive(Clone, Copy)]
 pub enum GiveBack {
-    /// By the cut itself, but for that of a few spans.
+    /// By the cut itself.
     AtOnce,
     /// By `Stripe::give_back`, where there is memory to keep their spans in mind. That of the span
     /// in which the new size lies is given back at once.

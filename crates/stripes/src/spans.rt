@@ -1,9 +1,9 @@
 //! Spans of files, by fileids and numbers.
 
 ghost use Rattle.std.specs.Prelude.{◌≡◌, ◌+◌, ◌*◌, ◌^◌, ◌/◌, ◌%◌, ◌<◌, ◌≤◌, ℕ, length, true, false};
-ghost use Rattle.std.specs.Prelude.{Some, None, IsTrue, IsSome, IfOk, IfSome, IfNone, OnOk, OnErr};
+ghost use Rattle.std.specs.Prelude.{Some, None, IsTrue, IsSome, IfSome, IfNone, OnOk, OnErr};
 ghost use Rattle.nfs_model.specs.Home.{span_bytes};
-ghost use Rattle.nfs_model.specs.volume.Stripes.{span_blocks, zero_block};
+ghost use Rattle.nfs_model.specs.volume.Stripes.{span_blocks};
 ghost use Rattle.stripes.specs.Spans.{
   span_at,
   span_is_filled,
@@ -35,9 +35,6 @@ use crate::span::Span;
 use nfs_values::{BlockNumber, SPAN_BLOCKS, SPAN_BYTES};
 use std::alloc::{AllocError, Global};
 use std::collections::BTreeMap;
-
-/// How many spans that are no file's any more are kept for blocks to come: 2 MiB.
-const MOST_SPARE: usize = 8;
 
 /// Spans by fileid and number, each with a block at least.
 pub type SpanMap = BTreeMap<(u64, u64), Span>;
@@ -193,53 +190,26 @@ fn take_out(spans: &mut SpanMap, fileid: u64, number: u64) -> Option<Span>
     spans.remove(&(fileid, number))
 }
 
-/// Tells the numbers of a span's blocks. It is kept where its memory is given back later, or where
-/// few are kept, if there is memory to keep it in mind.
+/// Tells the numbers of a span's blocks. Its memory is given back at once, or, where there is
+/// memory to keep it in mind, later.
 fn pass_on(span: Span, gone: &mut Vec<Span>, memory: GiveBack, freed: &mut FreedBlocks)
     ensures { freed.new ≡ numbers_from 0 span }
 {
     span.tell_numbers(freed);
-    let is_kept = match memory {
-        GiveBack::AtOnce => gone.len() < MOST_SPARE,
-        GiveBack::Later => true,
-    };
-    if is_kept {
-        let _kept = gone.push(span);
-    }
-}
-
-/// Takes a block out of the last of some spans, and the span once it has none.
-fn take_gone(gone: &mut Vec<Span>) -> Option<Block> {
-    let taken = gone.last_mut()?.take_first(0);
-    match taken {
-        Some((_, block)) => Some(block),
-        None => {
-            gone.pop();
-            None
+    match memory {
+        GiveBack::AtOnce => {}
+        GiveBack::Later => {
+            let _kept = gone.push(span);
         }
     }
 }
 
-/// A block of zeros, in the memory of one that is no file's any more, if there is some.
-pub fn zeros_in(
-    gone: &mut Vec<Span>,
-    alloc: Global,
-    number: BlockNumber,
-) -> Result<Block, AllocError>
-    ensures { IfOk result (λ block. block ≡ zero_block number.0) }
-{
-    match take_gone(gone) {
-        Some(block) => Ok(block.zeroed(number)),
-        None => Block::zero(alloc, number),
-    }
-}
-
-/// Gives back the memory of spans with this many blocks at least, or of all but a few that are
-/// left, and tells how many blocks they had.
+/// Gives back the memory of spans with this many blocks at least, or of all that are left, and
+/// tells how many blocks they had.
 pub fn give_back(gone: &mut Vec<Span>, blocks: usize) -> usize {
     let mut given = 0_usize;
     for _span in 0..blocks {
-        if given >= blocks || gone.len() <= MOST_SPARE {
+        if given >= blocks {
             return given;
         }
         match gone.pop() {
