@@ -10,7 +10,7 @@ use Rattle.nfs_model.specs.Server.{block_size}
 use Rattle.nfs_model.specs.Home.{span_bytes}
 use Rattle.nfs_model.specs.volume.Maps.{map_values}
 use Rattle.nfs_model.specs.volume.lemmas.Entries.{place_total, place_same}
-use Rattle.nfs_model.specs.volume.Stripes.{Block, FileBlock, file_block_cmp, span_blocks, block_mapped, file_mapped, byte_cut, is_past}
+use Rattle.nfs_model.specs.volume.Stripes.{Block, FileBlock, file_block_cmp, span_blocks, block_mapped, file_mapped, byte_cut, is_cut_off}
 use Rattle.stripes.specs.Spans.{Places, Spans, place_of, span_of, block_at, span_at, blocks_of, AllFilled, IsSpans, ChangesSpan, Where, CutsSpan, HasBlock}
 use Rattle.stripes.specs.Spans.{HasNoneFrom, FreesFirst, FreesSpan, is_in_rest, numbers_past, cut_blocks, IsFirstPast}
 use Rattle.stripes.proofs.Keys.{key-cases, key-apart}
@@ -23,8 +23,8 @@ use Rattle.stripes.proofs.FreedSpan.{past-place, is-past, rest-place, freed-rest
 use Rattle.stripes.proofs.Words.{at-array, at-other, file-long, file-mapped, some-kept}
 
 get-retained : (f size : ℕ) (m : FinMap file_block_cmp Block) (q : FileBlock)
-    → get (retain_keys m (λ p. not (is_past f size p))) q ≡ cond (not (is_past f size q)) (get m q) None
-get-retained f size m q = get-retain_keys m (λ p. not (is_past f size p)) q (λ x e. ap (λ p. not (is_past f size p)) (sym (place_same q x e)))
+    → get (retain_keys m (λ p. not (is_cut_off f size p))) q ≡ cond (not (is_cut_off f size q)) (get m q) None
+get-retained f size m q = get-retain_keys m (λ p. not (is_cut_off f size p)) q (λ x e. ap (λ p. not (is_cut_off f size p)) (sym (place_same q x e)))
 
 module _ (f size first : ℕ) (numbers : List ℕ) (old new : Spans) where
   -- the numbers past the size, of which those of a span are gone
@@ -44,28 +44,28 @@ module _ (f size first : ℕ) (numbers : List ℕ) (old new : Spans) where
 
   -- what is gone is past the size
   rest-past : IsFirstPast size first → (frees : FreesSpan f first numbers old new) → (q : FileBlock) → is_in_rest f frees.span frees.from q ≡ true
-      → is_past f size q ≡ true
+      → is_cut_off f size q ≡ true
   rest-past past frees q h =
       let both = rest-place f frees.span frees.from q h in
       let after = frees.after in
       let from = both.1.1 in
-      ap (λ t. is_past f size (t, q.1)) both.0 ∙ is-past f size q.1 (past.past q.1 (let span = both.1.0 in omega (arith, after, from, span)))
+      ap (λ t. is_cut_off f size (t, q.1)) both.0 ∙ is-past f size q.1 (past.past q.1 (let span = both.1.0 in omega (arith, after, from, span)))
 
   pub freed-cut : IsFirstPast size first → FreesSpan f first numbers old new → cut_blocks f size (blocks_of new) ≡ cut_blocks f size (blocks_of old)
   freed-cut past frees = ap (map_values (file_mapped (byte_cut size) f)) (same_map place_total place_same _ _ (λ q.
       get-retained f size (blocks_of new) q
-      ∙ ap (λ o. cond (not (is_past f size q)) o None) (get-blocks_of new q ∙ frees.gone q)
+      ∙ ap (λ o. cond (not (is_cut_off f size q)) o None) (get-blocks_of new q ∙ frees.gone q)
       ∙ by q (is_in_rest f frees.span frees.from q) refl
-      ∙ ap (λ o. cond (not (is_past f size q)) o None) (sym (get-blocks_of old q))
+      ∙ ap (λ o. cond (not (is_cut_off f size q)) o None) (sym (get-blocks_of old q))
       ∙ sym (get-retained f size (blocks_of old) q)))
     where
       nothing : Option Block
       nothing = None
 
       by : (q : FileBlock) (t : Bool) → is_in_rest f frees.span frees.from q ≡ t
-          → cond (not (is_past f size q)) (cond t None (block_at old q)) None ≡ cond (not (is_past f size q)) (block_at old q) None
+          → cond (not (is_cut_off f size q)) (cond t None (block_at old q)) None ≡ cond (not (is_cut_off f size q)) (block_at old q) None
       by q true h =
-          let gone : not (is_past f size q) ≡ false = ap not (rest-past past frees q h) in
+          let gone : not (is_cut_off f size q) ≡ false = ap not (rest-past past frees q h) in
           ap (λ t. cond t nothing None) gone ∙ sym (ap (λ t. cond t (block_at old q) None) gone)
       by q false h = refl
 
@@ -167,8 +167,8 @@ module _ (f size first : ℕ) (old new : Spans) where
       ∙ ap (map_values (file_mapped (byte_cut size) f)) (same_map place_total place_same _ _ (λ q.
       elim (kept-or-none q) [
         | inl keep ↦ sym (get-retained f size (blocks_of old) q ∙ ap (λ t. cond t (get (blocks_of old) q) None) keep)
-        | inr gone ↦ gone ∙ sym (get-retained f size (blocks_of old) q ∙ ap (λ o. cond (not (is_past f size q)) o None) gone
-            ∙ either (not (is_past f size q)))
+        | inr gone ↦ gone ∙ sym (get-retained f size (blocks_of old) q ∙ ap (λ o. cond (not (is_cut_off f size q)) o None) gone
+            ∙ either (not (is_cut_off f size q)))
       ]))
     where
       nothing : Option Block
@@ -178,16 +178,16 @@ module _ (f size first : ℕ) (old new : Spans) where
       either true = refl
       either false = refl
 
-      kept-or-none : (q : FileBlock) → (not (is_past f size q) ≡ true) ⊎ (get (blocks_of old) q ≡ None)
-      kept-or-none q = by (is_past f size q) refl
+      kept-or-none : (q : FileBlock) → (not (is_cut_off f size q) ≡ true) ⊎ (get (blocks_of old) q ≡ None)
+      kept-or-none q = by (is_cut_off f size q) refl
         where
-          by : (t : Bool) → is_past f size q ≡ t → (not (is_past f size q) ≡ true) ⊎ (get (blocks_of old) q ≡ None)
+          by : (t : Bool) → is_cut_off f size q ≡ t → (not (is_cut_off f size q) ≡ true) ⊎ (get (blocks_of old) q ≡ None)
           by true e = let is = past-place f size q e in
               inr (get-blocks_of old q ∙ ap (λ t. block_at old (t, q.1)) is.0 ∙ none q.1 (past.from q.1 is.1))
           by false e = inl (ap not e)
 
   pub tail-numbers : IsFirstPast size first → HasNoneFrom f first old → numbers_past f size (blocks_of old) ≡ []
-  tail-numbers past none = ap (map (λ (e : FileBlock × Block). e.1.number)) (freed-none (is_past f size) (blocks_of old) (λ q h.
+  tail-numbers past none = ap (map (λ (e : FileBlock × Block). e.1.number)) (freed-none (is_cut_off f size) (blocks_of old) (λ q h.
       let is = past-place f size q h in get-blocks_of old q ∙ ap (λ t. block_at old (t, q.1)) is.0 ∙ none q.1 (past.from q.1 is.1)))
 
 -- the first block past a size

@@ -10,7 +10,7 @@ use Rattle.std.specs.BTreeMap.{is_at}
 use Rattle.std.specs.FinMap.{FinMap, get, remove, get-remove, same_map}
 use Rattle.nfs_model.specs.Server.{block_size}
 use Rattle.nfs_model.specs.volume.lemmas.Entries.{place_total, place_same}
-use Rattle.nfs_model.specs.volume.Stripes.{Block, FileBlock, file_block_cmp, span_blocks, is_past}
+use Rattle.nfs_model.specs.volume.Stripes.{Block, FileBlock, file_block_cmp, span_blocks, is_cut_off}
 use Rattle.stripes.specs.Spans.{span_of, numbers_past, numbers_at, with_number, is_in_rest}
 use Rattle.stripes.proofs.Keys.{key-cases, key-itself, key-same, key-other, key-within, key-turned, upto-span}
 use Rattle.stripes.proofs.Places.{unlike}
@@ -18,7 +18,7 @@ use Rattle.stripes.proofs.Freed.{freed-first}
 
 -- ---- blocks past a size
 
-pub past-place : (f size : ℕ) (p : FileBlock) → is_past f size p ≡ true → (p.0 ≡ f) × (size ≤ block_size * p.1)
+pub past-place : (f size : ℕ) (p : FileBlock) → is_cut_off f size p ≡ true → (p.0 ≡ f) × (size ≤ block_size * p.1)
 past-place f size p h = elim (cases_eq p.0 f) [
   | inl e ↦ (
     e,
@@ -28,7 +28,7 @@ past-place f size p h = elim (cases_eq p.0 f) [
   | inr n ↦ absurd (let no : false ≡ true = sym (ap (λ t. t && nat_le size (block_size * p.1)) (unlike p.0 f n)) ∙ h in cc)
 ]
 
-pub is-past : (f size b : ℕ) → size ≤ block_size * b → is_past f size (f, b) ≡ true
+pub is-past : (f size b : ℕ) → size ≤ block_size * b → is_cut_off f size (f, b) ≡ true
 is-past f size b h = ap (λ t. t && nat_le size (block_size * b)) (eq-eqb f f refl)
     ∙ (let e : nat_le size (block_size * b) ≡ true = grind (arith, nat_tests) in e)
 
@@ -104,7 +104,7 @@ rest-none f s i q e =
 pub record IsRest (f size s : ℕ) (g : ℕ → Option Block) (i : ℕ) (m new : FinMap file_block_cmp Block) : Type 0 where
   pub past : size ≤ block_size * (span_blocks * s + i)
   pub same : (j : ℕ) → i ≤ j → j < span_blocks → get m (f, span_blocks * s + j) ≡ g j
-  pub before : (q : FileBlock) → is_past f size q ≡ true → q.1 < span_blocks * s + i → get m q ≡ None
+  pub before : (q : FileBlock) → is_cut_off f size q ≡ true → q.1 < span_blocks * s + i → get m q ≡ None
   pub gone : (q : FileBlock) → get new q ≡ cond (is_in_rest f s i q) None (get m q)
 
 abbrev IsWithout : FileBlock → FinMap file_block_cmp Block → FinMap file_block_cmp Block → Type 0
@@ -171,7 +171,7 @@ freed-rest f size s g (suc n) i m new e rest =
         → numbers_past f size m ≡ with_number o (numbers_at g (i + 1) n) ++ numbers_past f size new
     by None h next = next m (without-none m k (rest.same i (omega arith) (omega (arith, e)) ∙ h))
     by (Some b) h next =
-        ap (map (λ (x : FileBlock × Block). x.1.number)) (freed-first (is_past f size) k b m (remove m k) (is-past f size (span_blocks * s + i) rest.past)
+        ap (map (λ (x : FileBlock × Block). x.1.number)) (freed-first (is_cut_off f size) k b m (remove m k) (is-past f size (span_blocks * s + i) rest.past)
         (rest.same i (omega arith) (omega (arith, e)) ∙ h) (removed m k)
         (λ q p after. rest.before q p (before-key f (span_blocks * s + i) q (past-place f size q p).0 after)))
         ∙ ap (λ ns. b.number ∷ ns) (next (remove m k) (removed m k))

@@ -10,7 +10,7 @@ use Rattle.nfs_model.specs.volume.Maps.{map_values, changed_at}
 use Rattle.nfs_model.specs.Server.{block_size}
 use Rattle.nfs_model.specs.Home.{span_bytes}
 use Rattle.nfs_model.specs.Serial.Write.{blocks_met}
-use Rattle.nfs_model.specs.volume.Stripes.{Block, FileBlock, file_block_cmp, span_blocks, byte_of, byte_written, byte_cut, block_mapped, file_mapped, is_past}
+use Rattle.nfs_model.specs.volume.Stripes.{Block, FileBlock, file_block_cmp, span_blocks, byte_of, byte_written, byte_cut, block_mapped, file_mapped, is_cut_off}
 
 -- the places of a span
 abbrev pub Places : Type 0
@@ -279,11 +279,11 @@ pub record IsFirstPast (size first : ℕ) : Type 0 where
 -- the numbers of a file's blocks that lie wholly past a size
 abbrev pub numbers_past : ℕ → ℕ → FinMap file_block_cmp Block → List ℕ
 numbers_past fileid size blocks =
-    map (λ (e : FileBlock × Block). e.1.number) (filter (λ (e : FileBlock × Block). is_past fileid size e.0) (entries blocks))
+    map (λ (e : FileBlock × Block). e.1.number) (filter (λ (e : FileBlock × Block). is_cut_off fileid size e.0) (entries blocks))
 
 -- a file's blocks cut to a size
 abbrev pub cut_blocks : ℕ → ℕ → FinMap file_block_cmp Block → FinMap file_block_cmp Block
-cut_blocks fileid size blocks = map_values (file_mapped (byte_cut size) fileid) (retain_keys blocks (λ p. not (is_past fileid size p)))
+cut_blocks fileid size blocks = map_values (file_mapped (byte_cut size) fileid) (retain_keys blocks (λ p. not (is_cut_off fileid size p)))
 
 -- n bytes of a file from an offset on
 abbrev pub blocks_read : FinMap file_block_cmp Block → ℕ → ℕ → ℕ → List ℕ

@@ -177,19 +177,19 @@ abbrev pub byte_cut : ℕ → ℕ → ℕ → ℕ
 byte_cut size at old = if nat_lt at size then old else 0
 
 -- whether a place is of a file, and the block lies wholly past a size
-abbrev pub is_past : ℕ → ℕ → FileBlock → Bool
-is_past fileid size place = (place.0 == fileid) && nat_le size (block_size * place.1)
+abbrev pub is_cut_off : ℕ → ℕ → FileBlock → Bool
+is_cut_off fileid size place = (place.0 == fileid) && nat_le size (block_size * place.1)
 
 -- a file's blocks cut to a size: those past it gone, and zeros in the rest of the last
 abbrev pub cut : ℕ → ℕ → StripeValue → StripeValue
 cut fileid size s = record s {
-  blocks = map_values (file_mapped (byte_cut size) fileid) (retain_keys s.blocks (λ p. not (is_past fileid size p)));
+  blocks = map_values (file_mapped (byte_cut size) fileid) (retain_keys s.blocks (λ p. not (is_cut_off fileid size p)));
 }
 
 -- the numbers of the blocks that a cut frees
 abbrev pub numbers_freed : ℕ → ℕ → StripeValue → List ℕ
 numbers_freed fileid size s =
-    map (λ (e : FileBlock × Block). e.1.number) (filter (λ (e : FileBlock × Block). is_past fileid size e.0) (entries s.blocks))
+    map (λ (e : FileBlock × Block). e.1.number) (filter (λ (e : FileBlock × Block). is_cut_off fileid size e.0) (entries s.blocks))
 
 -- ---- what holds of it
 

@@ -10,7 +10,7 @@ use Rattle.std.specs.Option.{option_map}
 use Rattle.std.specs.FinMap.{get, len, entries, retain_keys, get-retain_keys, len-entries}
 use Rattle.nfs_model.specs.Server.{block_size}
 use Rattle.nfs_model.specs.Parts.{one_if, count, times_listed}
-use Rattle.nfs_model.specs.volume.Stripes.{FileBlock, Block, StripeValue, byte_of, byte_cut, block_mapped, file_mapped, is_past, cut, touch_taken}
+use Rattle.nfs_model.specs.volume.Stripes.{FileBlock, Block, StripeValue, byte_of, byte_cut, block_mapped, file_mapped, is_cut_off, cut, touch_taken}
 use Rattle.nfs_model.specs.volume.Stripes.{numbers_freed}
 use Rattle.nfs_model.specs.volume.lemmas.Entries.{place_total, place_same}
 use Rattle.nfs_model.specs.volume.lemmas.Maps.{get-map_values}
@@ -21,7 +21,7 @@ use Rattle.filer_state.specs.nodes.lemmas.Counting.{is_of, blocks_in, entries-re
 
 module _ (f size : ℕ) where
   abbrev kept : FileBlock → Bool
-  kept p = not (is_past f size p)
+  kept p = not (is_cut_off f size p)
 
   abbrev cut_block : FileBlock → Block → Block
   cut_block = file_mapped (byte_cut size) f
@@ -102,7 +102,7 @@ module _ (f size : ℕ) where
   PlacedBlock = FileBlock × Block
 
   abbrev past_entry : PlacedBlock → Bool
-  past_entry e = is_past f size e.0
+  past_entry e = is_cut_off f size e.0
 
   abbrev kept_entry : PlacedBlock → Bool
   kept_entry e = kept e.0
