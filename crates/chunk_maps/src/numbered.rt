@@ -26,8 +26,8 @@ use crate::page::{PAGE_CHUNKS, Page, change_on, free_on, put_on, take_on};
 use std::alloc::{AllocError, Global};
 use std::marker::Model;
 
-/// Pages in the order of their numbers. Most numbers follow one another, so that the place of one is
-/// guessed.
+/// Pages in the order of their numbers. Most numbers follow one another, so that the place of one
+/// is guessed.
 #[derive(Drop)]
 pub struct NumberedPages<C> {
     list: Vec<(u64, Page<C>)>,

@@ -3,7 +3,7 @@
 use crate::bytes::{holds, is_handle, spelled, spells};
 use nfs_values::{Answer, Call, FileHandle, Fileid, MountResults, Named, Reply, VolumeNumber};
 use rpc_msg::{
-    Asked, HandleForm, Heard, Offer, RecordFault, Request, Verdict, read_record_into,
+    DecodedCall, HandleForm, Heard, Offer, RecordFault, Request, Verdict, read_record_into,
     read_record_of, tell, write_reply_record,
 };
 use std::mem;
@@ -67,7 +67,7 @@ fn has(rt: &impl Abort, heard: Result<Heard, RecordFault>, wanted: &[u8]) -> boo
 /// Whether it has them of a GETATTR that is heard by an offer, where its record lies and out of it.
 fn hears(rt: &(impl Abort + AllocGlobal), offer: Offer, handle: &[u32], wanted: &[u8]) -> bool {
     let record = spelled(rt, &[&GETATTR, handle]);
-    let mut asked = Asked::NOTHING;
+    let mut asked = DecodedCall::NOTHING;
     let told = read_record_into(rt.alloc(), &record, offer, &mut asked)
         .ok()
         .expect(rt, "a fault");

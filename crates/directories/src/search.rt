@@ -122,8 +122,8 @@ fn narrow_at(index: &Sequence<Spot>, hash: u32, bounds: Around, position: usize)
     bounds
 }
 
-/// A slot that the entry with a name of a hash is guessed in. Where none is kept for the hash, it is
-/// the slot at the place in the index where the hash is guessed, which is noted for a search.
+/// A slot that the entry with a name of a hash is guessed in. Where none is kept for the hash, it
+/// is the slot at the place in the index where the hash is guessed, which is noted for a search.
 pub fn guess_slot(index: &Sequence<Spot>, guesses: &Guesses, hash: u32) -> Option<u32> {
     if let Some(slot) = guesses.slot(hash) {
         return Some(slot);

@@ -7,7 +7,7 @@ ghost use Rattle.front_rows.specs.Gathering.{HasGathered, gathered_none, gathere
 use affinity::{CallNode, Layout};
 use nfs_values::{Call, ConnectionNumber, Reply};
 use outboxes::Outboxes;
-use rpc_msg::Asked;
+use rpc_msg::DecodedCall;
 use scheduler::{Message, Origin};
 use std::alloc::{AllocError, Global};
 use std::mem;
@@ -49,7 +49,7 @@ impl RecordSink for Gathered {
     fn admit(
         &mut self,
         origin: Origin,
-        asked: &mut Asked,
+        asked: &mut DecodedCall,
         affinity: CallNode,
         reply_bound: usize,
     ) -> Result<(), AllocError> {

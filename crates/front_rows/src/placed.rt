@@ -7,7 +7,7 @@ ghost use Rattle.front_rows.specs.Gathering.{HasGathered, gathered_none, gathere
 use crate::gathered::Gathered;
 use affinity::CallNode;
 use nfs_values::{ConnectionNumber, Reply};
-use rpc_msg::Asked;
+use rpc_msg::DecodedCall;
 use scheduler::Origin;
 use std::alloc::AllocError;
 use tcp_front::RecordSink;
@@ -53,7 +53,7 @@ impl RecordSink for Placed {
     fn admit(
         &mut self,
         origin: Origin,
-        asked: &mut Asked,
+        asked: &mut DecodedCall,
         affinity: CallNode,
         reply_bound: usize,
     ) -> Result<(), AllocError> {

@@ -10,7 +10,7 @@ use crate::spent::Spent;
 use affinity::{Affinity, CallNode, Layout};
 use nfs_values::{Call, Caller, Moment};
 use outboxes::Room;
-use rpc_msg::Asked;
+use rpc_msg::DecodedCall;
 use scheduler::Origin;
 use service::ServedCall;
 use std::alloc::{AllocError, Global};
@@ -46,7 +46,7 @@ impl Envelope {
         alloc: Global,
         spent: Option<Spent>,
         origin: Origin,
-        asked: &mut Asked,
+        asked: &mut DecodedCall,
         affinity: CallNode,
         room: Room,
     ) -> Result<Envelope, AllocError>

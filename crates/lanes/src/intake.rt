@@ -13,7 +13,7 @@ use connections::Due;
 use granted_calls::shared_waiting::{Pass, SharedWaiting};
 use granted_calls::{Envelope, Filer};
 use nfs_values::{Call, ConnectionNumber, Reply};
-use rpc_msg::{Asked, HandleForm, tell};
+use rpc_msg::{DecodedCall, HandleForm, tell};
 use scheduler::Origin;
 use service::Ahead;
 use statistics::{ReplyCounts, ReplyKind};
@@ -96,7 +96,7 @@ impl<R: Wait> RecordSink for Intake<R> {
     fn admit(
         &mut self,
         origin: Origin,
-        asked: &mut Asked,
+        asked: &mut DecodedCall,
         affinity: CallNode,
         reply_bound: usize,
     ) -> Result<(), AllocError> {

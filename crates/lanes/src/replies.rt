@@ -10,7 +10,7 @@ use connections::{Connection, Device, Sent, close_under, open_under, write_under
 use granted_calls::{Answer, AnswerSink, Envelope, Spent};
 use nfs_values::{ConnectionNumber, Reply};
 use outboxes::Outboxes;
-use rpc_msg::Asked;
+use rpc_msg::DecodedCall;
 use scheduler::Origin;
 use slab::Slab;
 use std::alloc::{AllocError, Global};
@@ -67,7 +67,7 @@ impl Replies {
         &mut self,
         alloc: Global,
         origin: Origin,
-        asked: &mut Asked,
+        asked: &mut DecodedCall,
         affinity: CallNode,
         reply_bound: usize,
     ) -> Result<Envelope, AllocError>

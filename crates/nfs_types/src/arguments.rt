@@ -9,7 +9,8 @@ ghost use Rattle.nfs_values.specs.Call.{call_of};
 ghost use Rattle.nfs_values.specs.Procedure.{numbers_of};
 ghost use Rattle.nfs_values.specs.declared.procedure.Procedure.{Procedure};
 ghost use Rattle.nfs_types.specs.Shapes.{handle_shape, target_shape};
-ghost use Rattle.nfs_types.specs.Arguments.{Makes, put_in, target_of, asked, asked_by, takes_memory};
+ghost use Rattle.nfs_types.specs.Arguments.{Makes, put_in, target_of, asked, asked_by};
+ghost use Rattle.nfs_types.specs.Arguments.{takes_memory};
 ghost use Rattle.nfs_types.specs.Arguments.{setattr_shape, range_shape, writing_shape};
 ghost use Rattle.nfs_types.specs.Arguments.{access_shape, symlinking_shape, mknodding_shape};
 ghost use Rattle.nfs_types.specs.Arguments.{linking_shape, access_call, readlink_call};
@@ -52,7 +53,6 @@ fn target(alloc: Global, bytes: &[u8]) -> Result<Target, Bad>
 }
 
 /// NULL (RFC 1813 section 3.3.0).
-#[inline(never)]
 fn null(bytes: &[u8], call: &mut Call) -> Result<(), Bad>
     ensures { Makes call_of false (put_in result call.new)
         (asked_by Void null_call bytes.now) }
@@ -63,7 +63,6 @@ fn null(bytes: &[u8], call: &mut Call) -> Result<(), Bad>
 }
 
 /// GETATTR (RFC 1813 section 3.3.1).
-#[inline(never)]
 fn get_attributes(bytes: &[u8], call: &mut Call) -> Result<(), Bad>
     ensures { Makes call_of false (put_in result call.new)
         (asked_by handle_shape getattr_call bytes.now) }
@@ -74,7 +73,6 @@ fn get_attributes(bytes: &[u8], call: &mut Call) -> Result<(), Bad>
 }
 
 /// SETATTR (RFC 1813 section 3.3.2).
-#[inline(never)]
 fn set_attributes(bytes: &[u8], call: &mut Call) -> Result<(), Bad>
     ensures { Makes call_of false (put_in result call.new)
         (asked_by setattr_shape setattr_call bytes.now) }
@@ -87,7 +85,6 @@ fn set_attributes(bytes: &[u8], call: &mut Call) -> Result<(), Bad>
 }
 
 /// LOOKUP (RFC 1813 section 3.3.3).
-#[inline(never)]
 fn lookup(alloc: Global, bytes: &[u8], call: &mut Call) -> Result<(), Bad>
     ensures { Makes call_of true (put_in result call.new)
         (asked_by target_shape lookup_call bytes.now) }
@@ -97,7 +94,6 @@ fn lookup(alloc: Global, bytes: &[u8], call: &mut Call) -> Result<(), Bad>
 }
 
 /// ACCESS (RFC 1813 section 3.3.4).
-#[inline(never)]
 fn check_access(bytes: &[u8], call: &mut Call) -> Result<(), Bad>
     ensures { Makes call_of false (put_in result call.new)
         (asked_by access_shape access_call bytes.now) }
@@ -108,7 +104,6 @@ fn check_access(bytes: &[u8], call: &mut Call) -> Result<(), Bad>
 }
 
 /// READLINK (RFC 1813 section 3.3.5).
-#[inline(never)]
 fn read_link(bytes: &[u8], call: &mut Call) -> Result<(), Bad>
     ensures { Makes call_of false (put_in result call.new)
         (asked_by handle_shape readlink_call bytes.now) }
@@ -119,7 +114,6 @@ fn read_link(bytes: &[u8], call: &mut Call) -> Result<(), Bad>
 }
 
 /// READ (RFC 1813 section 3.3.6).
-#[inline(never)]
 fn read(bytes: &[u8], call: &mut Call) -> Result<(), Bad>
     ensures { Makes call_of false (put_in result call.new)
         (asked_by range_shape read_call bytes.now) }
@@ -134,7 +128,6 @@ fn read(bytes: &[u8], call: &mut Call) -> Result<(), Bad>
 }
 
 /// WRITE (RFC 1813 section 3.3.7).
-#[inline(never)]
 fn write(alloc: Global, bytes: &[u8], call: &mut Call) -> Result<(), Bad>
     ensures { Makes call_of true (put_in result call.new)
         (asked_by writing_shape write_call bytes.now) }
@@ -171,7 +164,6 @@ fn write_in_place(record: Vec<u8>, from: usize) -> Result<Call, Bad>
 }
 
 /// CREATE (RFC 1813 section 3.3.8).
-#[inline(never)]
 fn create(alloc: Global, bytes: &[u8], call: &mut Call) -> Result<(), Bad>
     ensures { Makes call_of true (put_in result call.new)
         (asked_by creating_shape create_call bytes.now) }
@@ -183,7 +175,6 @@ fn create(alloc: Global, bytes: &[u8], call: &mut Call) -> Result<(), Bad>
 }
 
 /// MKDIR (RFC 1813 section 3.3.9).
-#[inline(never)]
 fn make_directory(alloc: Global, bytes: &[u8], call: &mut Call) -> Result<(), Bad>
     ensures { Makes call_of true (put_in result call.new)
         (asked_by making_shape mkdir_call bytes.now) }
@@ -195,7 +186,6 @@ fn make_directory(alloc: Global, bytes: &[u8], call: &mut Call) -> Result<(), Ba
 }
 
 /// SYMLINK (RFC 1813 section 3.3.10), whose name and text are copied once nothing is left over.
-#[inline(never)]
 fn make_symbolic_link(alloc: Global, bytes: &[u8], call: &mut Call) -> Result<(), Bad>
     ensures { Makes call_of true (put_in result call.new)
         (asked_by symlinking_shape symlink_call bytes.now) }
@@ -210,7 +200,6 @@ fn make_symbolic_link(alloc: Global, bytes: &[u8], call: &mut Call) -> Result<()
 }
 
 /// MKNOD (RFC 1813 section 3.3.11).
-#[inline(never)]
 fn make_device(alloc: Global, bytes: &[u8], call: &mut Call) -> Result<(), Bad>
     ensures { Makes call_of true (put_in result call.new)
         (asked_by mknodding_shape mknod_call bytes.now) }
@@ -226,7 +215,6 @@ fn make_device(alloc: Global, bytes: &[u8], call: &mut Call) -> Result<(), Bad>
 }
 
 /// REMOVE (RFC 1813 section 3.3.12).
-#[inline(never)]
 fn remove(alloc: Global, bytes: &[u8], call: &mut Call) -> Result<(), Bad>
     ensures { Makes call_of true (put_in result call.new)
         (asked_by target_shape remove_call bytes.now) }
@@ -236,7 +224,6 @@ fn remove(alloc: Global, bytes: &[u8], call: &mut Call) -> Result<(), Bad>
 }
 
 /// RMDIR (RFC 1813 section 3.3.13).
-#[inline(never)]
 fn remove_directory(alloc: Global, bytes: &[u8], call: &mut Call) -> Result<(), Bad>
     ensures { Makes call_of true (put_in result call.new)
         (asked_by target_shape rmdir_call bytes.now) }
@@ -246,7 +233,6 @@ fn remove_directory(alloc: Global, bytes: &[u8], call: &mut Call) -> Result<(), 
 }
 
 /// RENAME (RFC 1813 section 3.3.14), whose names are copied once nothing is left over.
-#[inline(never)]
 fn rename(alloc: Global, bytes: &[u8], call: &mut Call) -> Result<(), Bad>
     ensures { Makes call_of true (put_in result call.new)
         (asked_by renaming_shape rename_call bytes.now) }
@@ -261,7 +247,6 @@ fn rename(alloc: Global, bytes: &[u8], call: &mut Call) -> Result<(), Bad>
 }
 
 /// LINK (RFC 1813 section 3.3.15).
-#[inline(never)]
 fn make_link(alloc: Global, bytes: &[u8], call: &mut Call) -> Result<(), Bad>
     ensures { Makes call_of true (put_in result call.new)
         (asked_by linking_shape link_call bytes.now) }
@@ -273,7 +258,6 @@ fn make_link(alloc: Global, bytes: &[u8], call: &mut Call) -> Result<(), Bad>
 }
 
 /// READDIR (RFC 1813 section 3.3.16).
-#[inline(never)]
 fn read_directory(bytes: &[u8], call: &mut Call) -> Result<(), Bad>
     ensures { Makes call_of false (put_in result call.new)
         (asked_by listing_shape readdir_call bytes.now) }
@@ -291,7 +275,6 @@ fn read_directory(bytes: &[u8], call: &mut Call) -> Result<(), Bad>
 }
 
 /// READDIRPLUS (RFC 1813 section 3.3.17), whose dircount bounds the names.
-#[inline(never)]
 fn read_directory_plus(bytes: &[u8], call: &mut Call) -> Result<(), Bad>
     ensures { Makes call_of false (put_in result call.new)
         (asked_by listing_plus_shape readdirplus_call bytes.now) }
@@ -310,7 +293,6 @@ fn read_directory_plus(bytes: &[u8], call: &mut Call) -> Result<(), Bad>
 }
 
 /// FSSTAT (RFC 1813 section 3.3.18).
-#[inline(never)]
 fn filesystem_status(bytes: &[u8], call: &mut Call) -> Result<(), Bad>
     ensures { Makes call_of false (put_in result call.new)
         (asked_by handle_shape fsstat_call bytes.now) }
@@ -321,7 +303,6 @@ fn filesystem_status(bytes: &[u8], call: &mut Call) -> Result<(), Bad>
 }
 
 /// FSINFO (RFC 1813 section 3.3.19).
-#[inline(never)]
 fn filesystem_info(bytes: &[u8], call: &mut Call) -> Result<(), Bad>
     ensures { Makes call_of false (put_in result call.new)
         (asked_by handle_shape fsinfo_call bytes.now) }
@@ -332,7 +313,6 @@ fn filesystem_info(bytes: &[u8], call: &mut Call) -> Result<(), Bad>
 }
 
 /// PATHCONF (RFC 1813 section 3.3.20).
-#[inline(never)]
 fn path_configuration(bytes: &[u8], call: &mut Call) -> Result<(), Bad>
     ensures { Makes call_of false (put_in result call.new)
         (asked_by handle_shape pathconf_call bytes.now) }
@@ -343,7 +323,6 @@ fn path_configuration(bytes: &[u8], call: &mut Call) -> Result<(), Bad>
 }
 
 /// COMMIT (RFC 1813 section 3.3.21).
-#[inline(never)]
 fn commit(bytes: &[u8], call: &mut Call) -> Result<(), Bad>
     ensures { Makes call_of false (put_in result call.new)
         (asked_by range_shape commit_call bytes.now) }
@@ -354,7 +333,6 @@ fn commit(bytes: &[u8], call: &mut Call) -> Result<(), Bad>
 }
 
 /// CENSUS of the admin program.
-#[inline(never)]
 fn census(bytes: &[u8], call: &mut Call) -> Result<(), Bad>
     ensures { Makes call_of false (put_in result call.new)
         (asked_by Void census_call bytes.now) }
@@ -365,7 +343,6 @@ fn census(bytes: &[u8], call: &mut Call) -> Result<(), Bad>
 }
 
 /// GROW of the admin program.
-#[inline(never)]
 fn grow(bytes: &[u8], call: &mut Call) -> Result<(), Bad>
     ensures { Makes call_of false (put_in result call.new)
         (asked_by growing_shape grow_call bytes.now) }
@@ -376,7 +353,6 @@ fn grow(bytes: &[u8], call: &mut Call) -> Result<(), Bad>
 }
 
 /// STOP of the admin program.
-#[inline(never)]
 fn stop(bytes: &[u8], call: &mut Call) -> Result<(), Bad>
     ensures { Makes call_of false (put_in result call.new)
         (asked_by Void stop_call bytes.now) }
@@ -387,7 +363,6 @@ fn stop(bytes: &[u8], call: &mut Call) -> Result<(), Bad>
 }
 
 /// MNT of MOUNT (RFC 1813 appendix I, section 5.2.1), of a root or below one.
-#[inline(never)]
 fn mount(alloc: Global, bytes: &[u8], call: &mut Call) -> Result<(), Bad>
     ensures { Makes call_of true (put_in result call.new)
         (asked_by path_shape mnt_call bytes.now) }
@@ -399,7 +374,6 @@ fn mount(alloc: Global, bytes: &[u8], call: &mut Call) -> Result<(), Bad>
 }
 
 /// DUMP of MOUNT (RFC 1813 appendix I, section 5.2.2).
-#[inline(never)]
 fn list_mounts(bytes: &[u8], call: &mut Call) -> Result<(), Bad>
     ensures { Makes call_of false (put_in result call.new)
         (asked_by Void dump_call bytes.now) }
@@ -410,7 +384,6 @@ fn list_mounts(bytes: &[u8], call: &mut Call) -> Result<(), Bad>
 }
 
 /// UMNT of MOUNT (RFC 1813 appendix I, section 5.2.3).
-#[inline(never)]
 fn unmount(bytes: &[u8], call: &mut Call) -> Result<(), Bad>
     ensures { Makes call_of false (put_in result call.new)
         (asked_by path_shape umnt_call bytes.now) }
@@ -421,7 +394,6 @@ fn unmount(bytes: &[u8], call: &mut Call) -> Result<(), Bad>
 }
 
 /// UMNTALL of MOUNT (RFC 1813 appendix I, section 5.2.4).
-#[inline(never)]
 fn unmount_all(bytes: &[u8], call: &mut Call) -> Result<(), Bad>
     ensures { Makes call_of false (put_in result call.new)
         (asked_by Void umntall_call bytes.now) }
@@ -432,7 +404,6 @@ fn unmount_all(bytes: &[u8], call: &mut Call) -> Result<(), Bad>
 }
 
 /// EXPORT of MOUNT (RFC 1813 appendix I, section 5.2.5).
-#[inline(never)]
 fn list_exports(bytes: &[u8], call: &mut Call) -> Result<(), Bad>
     ensures { Makes call_of false (put_in result call.new)
         (asked_by Void export_call bytes.now) }

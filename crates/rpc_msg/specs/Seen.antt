@@ -22,7 +22,7 @@ use Rattle.rpc_msg.specs.Heads.{numbers_shape}
 use Rattle.rpc_msg.specs.declared.record.Heard.{Heard}
 use Rattle.rpc_msg.specs.declared.record.Request.{Request}
 use Rattle.rpc_msg.specs.declared.record.Request.TheVariants as requests
-use Rattle.rpc_msg.specs.declared.record.Asked.{Asked}
+use Rattle.rpc_msg.specs.declared.record.DecodedCall.{DecodedCall}
 use Rattle.rpc_msg.specs.declared.record.RecordVerdict.{RecordVerdict}
 use Rattle.rpc_msg.specs.declared.record.Verdict.{Verdict}
 use Rattle.rpc_msg.specs.declared.record.Verdict.TheVariants as verdicts
@@ -75,10 +75,10 @@ request_at call caller verdicts.Called = requests.Call call caller
 request_at call caller (verdicts.Refused reply) = requests.Refused reply
 request_at call caller verdicts.Undecoded = requests.Undecoded
 
-abbrev pub told_at : Asked → RecordVerdict → Heard
+abbrev pub told_at : DecodedCall → RecordVerdict → Heard
 told_at asked told = record { xid = told.xid; request = request_at asked.call asked.caller told.verdict }
 
-abbrev pub heard_at : Asked → Result RecordVerdict RecordFault → Result Heard RecordFault
+abbrev pub heard_at : DecodedCall → Result RecordVerdict RecordFault → Result Heard RecordFault
 heard_at asked (Ok told) = Ok (told_at asked told)
 heard_at asked (Err fault) = Err fault
 

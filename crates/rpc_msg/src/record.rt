@@ -43,14 +43,14 @@ pub struct Heard {
 
 /// A call that is read, and whom it acts for.
 #[derive(Drop)]
-pub struct Asked {
+pub struct DecodedCall {
     pub call: Call,
     pub caller: Caller,
 }
 
-impl Asked {
+impl DecodedCall {
     /// NULL, of nobody, until a call is read.
-    pub const NOTHING: Asked = Asked {
+    pub const NOTHING: DecodedCall = DecodedCall {
         call: Call::Null,
         caller: Caller::NOBODY,
     };
@@ -191,7 +191,7 @@ pub fn read_record_into(
     alloc: Global,
     record: &[u8],
     offer: Offer,
-    asked: &mut Asked,
+    asked: &mut DecodedCall,
 ) -> Result<RecordVerdict, RecordFault>
     ensures { Hears (heard_at asked.new result) (heard_by offer record.now) }
 {

@@ -19,7 +19,7 @@ use crate::sink::RecordSink;
 use affinity::Layout;
 use engine_feed::{admission_of, reply_at_once};
 use nfs_values::{AuthFault, Call, Caller, Refusal};
-use rpc_msg::{Asked, Request, Verdict};
+use rpc_msg::{DecodedCall, Request, Verdict};
 use scheduler::Origin;
 use std::alloc::{AllocError, Global};
 use std::mem;
@@ -93,7 +93,7 @@ fn answer_read<S: RecordSink>(
     sink: &mut S,
     layout: &Layout,
     origin: Origin,
-    asked: &mut Asked,
+    asked: &mut DecodedCall,
 ) -> Result<(), AllocError>
     ensures ok { OnOk result (S.came sink.old (Answered (addressed origin.connection.0
         (message origin.xid (reply_at_once (layout_of layout.now)
@@ -116,7 +116,7 @@ pub(crate) fn give<S: RecordSink>(
     layout: &Layout,
     peer: Peer,
     origin: Origin,
-    asked: &mut Asked,
+    asked: &mut DecodedCall,
     verdict: Verdict,
 ) -> Result<(), AllocError>
     requires room { S.room sink.old ≡ true }

@@ -18,7 +18,7 @@ ghost use Rattle.tcp_front.specs.Arrivals.{Arrival, Waits, Answered};
 
 use affinity::CallNode;
 use nfs_values::{ConnectionNumber, Reply};
-use rpc_msg::Asked;
+use rpc_msg::DecodedCall;
 use scheduler::Origin;
 use std::alloc::AllocError;
 
@@ -44,7 +44,7 @@ pub trait RecordSink {
     fn admit(
         &mut self,
         origin: Origin,
-        asked: &mut Asked,
+        asked: &mut DecodedCall,
         affinity: CallNode,
         reply_bound: usize,
     ) -> Result<(), AllocError>

@@ -17,7 +17,7 @@ use crate::stream::{MOST_RECORDS, Stopped, Stream};
 use affinity::Layout;
 use engine_feed::stream_fault;
 use rpc_msg::{
-    Asked, Heard, Offer, RecordFault, RecordVerdict, Request, Verdict, read_record_into,
+    DecodedCall, Heard, Offer, RecordFault, RecordVerdict, Request, Verdict, read_record_into,
     read_record_of,
 };
 use scheduler::Origin;
@@ -27,7 +27,7 @@ fn give_next<S: RecordSink>(
     stream: &mut Stream,
     sink: &mut S,
     layout: &Layout,
-    asked: &mut Asked,
+    asked: &mut DecodedCall,
     told: RecordVerdict,
 ) -> Option<Stopped>
     requires room { S.room sink.old ≡ true }
@@ -68,7 +68,7 @@ fn give_read<S: RecordSink>(
     stream: &mut Stream,
     sink: &mut S,
     layout: &Layout,
-    asked: &mut Asked,
+    asked: &mut DecodedCall,
     read: Result<RecordVerdict, RecordFault>,
 ) -> Option<Stopped>
     requires room { S.room sink.old ≡ true }
@@ -91,7 +91,7 @@ fn give_read<S: RecordSink>(
 }
 
 /// Puts what was read of a record in its place.
-fn put_heard(asked: &mut Asked, heard: Heard) -> RecordVerdict
+fn put_heard(asked: &mut DecodedCall, heard: Heard) -> RecordVerdict
     ensures { told_at asked.new result ≡ heard }
 {
     let xid = heard.xid;
@@ -114,7 +114,7 @@ fn give_joined<S: RecordSink>(
     sink: &mut S,
     layout: &Layout,
     offer: Offer,
-    asked: &mut Asked,
+    asked: &mut DecodedCall,
     record: Vec<u8>,
 ) -> Option<Stopped>
     requires room { S.room sink.old ≡ true }
@@ -140,7 +140,7 @@ fn take_record<S: RecordSink>(
     sink: &mut S,
     layout: &Layout,
     offer: Offer,
-    asked: &mut Asked,
+    asked: &mut DecodedCall,
     bytes: &[u8],
 ) -> (usize, Option<Stopped>)
     requires room { S.room sink.old ≡ true }
@@ -186,7 +186,7 @@ pub(crate) fn take_all<S: RecordSink>(
         bytes.now result stream.new sink.new }
     ensures layout { S.layout sink.new ≡ S.layout sink.old }
 {
-    let mut asked = Asked::NOTHING;
+    let mut asked = DecodedCall::NOTHING;
     let mut taken = 0;
     while taken < bytes.len() {
         let left = &bytes[taken..];
@@ -216,7 +216,7 @@ pub fn take_some<S: RecordSink>(
     ensures layout { S.layout sink.new ≡ S.layout sink.old }
     ensures room { result.1 ≡ None → result.0 < length bytes.now → S.room sink.new ≡ false }
 {
-    let mut asked = Asked::NOTHING;
+    let mut asked = DecodedCall::NOTHING;
     let mut taken = 0;
     while taken < bytes.len() {
         if !sink.has_room() {
