@@ -18,7 +18,7 @@ use std::marker::Model;
 use tcp_front::Peer;
 
 /// Of how many calls that were finished the memory is kept.
-const MOST_SPARE: usize = 256;
+const MOST_SPARE: usize = 1_024;
 
 /// A lane's outboxes, and the memory of calls that were finished, for those to come.
 pub struct Replies {

@@ -48,7 +48,7 @@ const MOST_OPEN: usize = 64;
 const MOST_NUMBERS: usize = 1 << 62;
 
 /// Of how many records that went out the memory is kept.
-const MOST_SPARE: usize = 256;
+const MOST_SPARE: usize = 1_024;
 
 /// How many bytes each of these has room for at most: a READ of 4 KiB, and what stands before it.
 const MOST_SPARE_BYTES: usize = 4_352;
@@ -183,8 +183,8 @@ impl Outboxes {
         }
     }
 
-    /// Keeps the memory of a record that went out, for one to come: of at most 256 records, none of
-    /// which has room for more than 4,352 bytes.
+    /// Keeps the memory of a record that went out, for one to come: of at most 1,024 records, none
+    /// of which has room for more than 4,352 bytes.
     pub fn give_back(&mut self, record: Record)
         ensures { self.new ≡ self.old }
     {

@@ -254,34 +254,17 @@ module _ (layout : Layout) (named : Named) (caller : Caller) (moment : Moment) (
       let no : reply ≡ Success (answer_on plain p) = r.0.1 in
       absurd cc
 
-  -- ---- by what the places gave
-
-  told-of : (o : Option Told) (a : Answer) → Some a ≡ option_map (answer_told named.volume) o
-      → (told : Told) × (o ≡ Some told) × (a ≡ answer_told named.volume told)
-  told-of None a e = absurd cc
-  told-of (Some told) a e = (told, refl, same e)
-    where
-      same : Some a ≡ Some (answer_told named.volume told) → a ≡ answer_told named.volume told
-      same f = cc
-
-  -- an answer was there
-  pub again-runs : (old : LogicalSet) (a : Answer)
-      → Some a ≡ option_map (answer_told named.volume) (told_before old.own.memos caller call moment)
-      → RunsOn named.volume logical_lens whole old (Replied (Success a)) old
-  again-runs old a e =
-      let t = told-of (told_before old.own.memos caller call moment) a e in
-      subst (λ (b : Answer). RunsOn named.volume logical_lens whole old (Replied (Success b)) old) (sym t.2) (told-runs old t.0 t.1)
-
-  none-there : (o : Option Told) → None ≡ option_map (answer_told named.volume) o → o ≡ None
-  none-there None e = refl
-  none-there (Some told) e = absurd cc
+  -- it was there
+  pub again-runs : (old : LogicalSet) (told : Told) (outcome : Outcome)
+      → told_before old.own.memos caller call moment ≡ Some told → outcome ≡ Replied (Success (answer_told named.volume told))
+      → RunsOn named.volume logical_lens whole old outcome old
+  again-runs old told outcome e is = subst (λ (o : Outcome). RunsOn named.volume logical_lens whole old o old) (sym is) (told-runs old told e)
 
   -- none was there
-  pub first-runs : (old new : LogicalSet) (outcome : Outcome)
-      → None ≡ option_map (answer_told named.volume) (told_before old.own.memos caller call moment)
+  pub first-runs : (old new : LogicalSet) (outcome : Outcome) → told_before old.own.memos caller call moment ≡ None
       → RunsOn named.volume logical_lens plain old outcome new
       → RunsOn named.volume logical_lens whole old outcome (record new { own = remembering caller call moment outcome new.own })
-  first-runs old new outcome e = done-runs old new outcome (none-there (told_before old.own.memos caller call moment) e)
+  first-runs = done-runs
 
   -- but for a reply nothing more has changed
   pub unless-remembered : {H : Type 0} (outcome : Outcome) (held : LogicalValue → H) (own : LogicalValue) (old : H)

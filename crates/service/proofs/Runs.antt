@@ -45,6 +45,15 @@ pub runs-here : {S : Type 0} (layout : Layout) (v : ℕ) (lens : Lens VolumeCont
 runs-here layout v lens a fileid call caller moment old new outcome is runs =
     subst (λ (f : ℕ). RunsOn v lens (call_of_node layout a f caller moment call) old outcome new) is runs
 
+-- where that is what a call is
+pub told-here : (layout : Layout) (v fileid : ℕ) (caller : Caller) (moment : Moment) (old : LogicalSet) (outcome : works.Outcome) {call made : codes.Call}
+    → call ≡ made → fileid ≡ fileid_in (named_by layout (handle_in (call_of call)))
+    → RunsOn v logical_lens (call_of_node layout (Logical v) fileid caller moment (call_of made)) old outcome old
+    → RunsOn v logical_lens (call_on layout (Logical v) caller moment (call_of call)) old outcome old
+told-here layout v fileid caller moment old outcome {call} is at runs =
+    runs-here layout v logical_lens (Logical v) fileid (call_of call) caller moment old old outcome at
+    (subst (λ (c : codes.Call). RunsOn v logical_lens (call_of_node layout (Logical v) fileid caller moment (call_of c)) old outcome old) (sym is) runs)
+
 -- a RENAME to the directory that its second handle names is run on its first
 pub renaming-runs : (layout : Layout) (named other : Named) (from from_name to to_name : List ℕ) (caller : Caller) (moment : Moment)
     (old new : LogicalSet) (told : Result (Result RenameResults Status) AllocError) (outcome : works.Outcome)

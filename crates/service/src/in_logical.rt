@@ -30,7 +30,7 @@ use crate::changing::{
 };
 use crate::named::fileid_of_call;
 use crate::outcome::Outcome;
-use crate::repeated::{remember, told_before};
+use crate::repeated::{remember, tell_again, told_before};
 use crate::task::Run;
 use crate::telling::{
     check_access_here, commit_here, filesystem_info_here, get_attributes_here, lookup_here,
@@ -39,7 +39,7 @@ use crate::telling::{
 };
 use affinity::{CallNode, Layout};
 use filer_state::Files;
-use nfs_values::{Call, Named, Reply, VolumeNumber};
+use nfs_values::{Call, Named, VolumeNumber};
 use parcels::LogicalHeld;
 use service_names::Ahead;
 use service_names::listing::PageAsked;
@@ -68,50 +68,10 @@ pub fn run_on_logical(
     look_ahead(run.ahead, volume, held);
     let fileid = fileid_of_call(layout, run.call);
     let named = Named { volume, fileid };
-    // a value that is returned from here isn't moved once more
-    if is_told(run.call) {
-        return tell(run, held, named);
+    if !is_told(run.call) {
+        return change_once(run, layout, held, named);
     }
-    change_once(run, layout, held, named)
-}
-
-/// Reads in advance what calls to come look for, if that is noted.
-fn look_ahead(ahead: Option<&Ahead>, volume: VolumeNumber, held: &LogicalHeld<Files>) {
-    if let Some(ahead) = ahead {
-        ahead.look(volume, held);
-    }
-}
-
-/// Whether a call changes nothing of what is under Volume Logical.
-fn is_told(call: &Call) -> bool
-    ensures { result ≡ is_told call.now }
-{
-    matches!(
-        call,
-        Call::GetAttributes { .. }
-            | Call::Lookup(_)
-            | Call::CheckAccess { .. }
-            | Call::ReadLink { .. }
-            | Call::Read { .. }
-            | Call::ReadDirectory { .. }
-            | Call::ReadDirectoryPlus { .. }
-            | Call::FilesystemInfo { .. }
-            | Call::PathConfiguration { .. }
-            | Call::Commit { .. }
-            | Call::MountBelow { .. }
-    )
-}
-
-/// Runs a call that changes nothing on the parcels of the volume of what its handle names.
-#[inline(never)]
-fn tell(run: Run, held: &LogicalHeld<Files>, named: Named) -> Outcome
-    requires told { is_told run.call.now ≡ true }
-    requires whole { HasVolume named.volume.0 logical_lens [] (logical_before held.now) }
-    ensures { (layout : trees.Layout) → RunsOn named.volume.0 logical_lens
-        (call_named layout (named_of named) (caller_of run.entry.caller.now)
-        (moment_of run.entry.moment) (call_of run.entry.call.now))
-        (logical_before held.now) (outcome_of result) (logical_before held.now) }
-{
+    // here, since a function of its own would move the outcome once more
     match run.call {
         Call::GetAttributes { handle } => get_attributes_here(run, held, named, handle),
         Call::Lookup(target) => lookup_here(run, held, named, target),
@@ -160,6 +120,33 @@ fn tell(run: Run, held: &LogicalHeld<Files>, named: Named) -> Outcome
     }
 }
 
+/// Reads in advance what calls to come look for, if that is noted.
+fn look_ahead(ahead: Option<&Ahead>, volume: VolumeNumber, held: &LogicalHeld<Files>) {
+    if let Some(ahead) = ahead {
+        ahead.look(volume, held);
+    }
+}
+
+/// Whether a call changes nothing of what is under Volume Logical.
+fn is_told(call: &Call) -> bool
+    ensures { result ≡ is_told call.now }
+{
+    matches!(
+        call,
+        Call::GetAttributes { .. }
+            | Call::Lookup(_)
+            | Call::CheckAccess { .. }
+            | Call::ReadLink { .. }
+            | Call::Read { .. }
+            | Call::ReadDirectory { .. }
+            | Call::ReadDirectoryPlus { .. }
+            | Call::FilesystemInfo { .. }
+            | Call::PathConfiguration { .. }
+            | Call::Commit { .. }
+            | Call::MountBelow { .. }
+    )
+}
+
 /// Runs a call that may change the volume of what its handle names, on the volume's parcels. One
 /// that comes again is told what it was told before, where that is remembered.
 #[inline(never)]
@@ -176,8 +163,8 @@ fn change_once(run: Run, layout: &Layout, held: &mut LogicalHeld<Files>, named: 
     ensures moved { UnlessReplied (outcome_of result) (held.new ≡ held.old) }
     ensures alike { logical_alike held.old held.new }
 {
-    if let Some(answer) = told_before(run, &held.own, named.volume) {
-        return Outcome::Replied(Reply::Success(answer));
+    if let Some(told) = told_before(run, &held.own) {
+        return tell_again(run, told, named.volume);
     }
     let outcome = change(run, layout, held, named);
     remember(run, &mut held.own, &outcome);
@@ -186,6 +173,7 @@ fn change_once(run: Run, layout: &Layout, held: &mut LogicalHeld<Files>, named: 
 
 /// Runs a call that may change the volume of what its handle names, on the volume's parcels, as
 /// where nothing is remembered.
+#[inline(never)]
 fn change(run: Run, layout: &Layout, held: &mut LogicalHeld<Files>, named: Named) -> Outcome
     requires run { IsRunInLogical run.call.now }
     requires changes { is_told run.call.now ≡ false }

@@ -1,9 +1,9 @@
 //! Calls that come again are done once.
 
 ghost use Rattle.std.specs.Prelude.{◌≡◌};
-ghost use Rattle.std.specs.Option.{option_map};
 ghost use Rattle.nfs_model.specs.Serial.Once.{answer_told, told_before};
-ghost use Rattle.nfs_values.specs.Answer.{answer_of};
+ghost use Rattle.nfs_model.specs.Types.{Success};
+ghost use Rattle.nfs_model.specs.Work.{Replied};
 ghost use Rattle.nfs_values.specs.Call.{call_of};
 ghost use Rattle.nfs_values.specs.Caller.{caller_of};
 ghost use Rattle.nfs_values.specs.Moment.{moment_of};
@@ -12,23 +12,26 @@ ghost use Rattle.service.specs.Running.{outcome_of, remembering};
 use crate::outcome::Outcome;
 use crate::task::Run;
 use filer_state::LogicalParcel;
-use nfs_values::{Answer, Reply, VolumeNumber};
+use memos::Remembered;
+use nfs_values::{Reply, VolumeNumber};
 use service_names::Ahead;
 
-/// What the caller of a call was answered before, if the volume remembers it.
-pub(crate) fn told_before(run: Run, own: &LogicalParcel, volume: VolumeNumber) -> Option<Answer>
-    ensures { option_map answer_of result ≡ option_map (answer_told volume.0)
-        (told_before own.now.memos (caller_of run.entry.caller.now) (call_of run.entry.call.now)
-        (moment_of run.entry.moment)) }
+/// What the caller of a call was told before, if the volume remembers it.
+pub(crate) fn told_before<'a>(run: Run, own: &'a LogicalParcel) -> Option<Remembered<'a>>
+    ensures { result ≡ told_before own.now.memos (caller_of run.entry.caller.now)
+        (call_of run.entry.call.now) (moment_of run.entry.moment) }
 {
-    let told = own
-        .get()
-        .memos
-        .told(run.caller, run.call, run.moment, volume);
-    if told.is_some() {
-        count(run.ahead);
-    }
-    told
+    own.get().memos.find(run.caller, run.call, run.moment)
+}
+
+/// What a call comes to that is told this again, which is counted. It stands apart, so that others
+/// have no room for its answer.
+#[inline(never)]
+pub(crate) fn tell_again(run: Run, told: Remembered, volume: VolumeNumber) -> Outcome
+    ensures { outcome_of result ≡ Replied (Success (answer_told volume.0 told)) }
+{
+    count(run.ahead);
+    Outcome::Replied(Reply::Success(told.answer(run.call, volume)))
 }
 
 /// Counts a call that was told a reply again, where that is counted.

@@ -9,6 +9,7 @@ ghost use Rattle.engine_feed.specs.Seen.{asked_of};
 ghost use Rattle.nfs_values.specs.Call.{call_of};
 ghost use Rattle.nfs_values.specs.Caller.{caller_of};
 ghost use Rattle.rpc_msg.specs.Seen.{request_at};
+ghost use Rattle.rpc_msg.specs.declared.record.Request.TheVariants.{Refused, Undecoded};
 ghost use Rattle.rpc_msg.specs.declared.record.Verdict.TheVariants.{Called};
 ghost use Rattle.tcp_front.specs.Arrivals.{Answered};
 ghost use Rattle.tcp_front.specs.Peers.{caller_at, may_ask, may_grow, may_stop, sender_of};
@@ -86,6 +87,41 @@ fn answer_now<S: RecordSink>(
     sink.answer(origin.connection, origin.xid, &mut reply)
 }
 
+/// Answers a record that is refused. It stands apart, as a request would take room in others.
+#[inline(never)]
+fn refuse<S: RecordSink>(
+    alloc: Global,
+    sink: &mut S,
+    layout: &Layout,
+    origin: Origin,
+    refusal: Refusal,
+) -> Result<(), AllocError>
+    ensures ok { OnOk result (S.came sink.old (Answered (addressed origin.connection.0
+        (message origin.xid (reply_at_once (layout_of layout.now)
+        (asked_of (Refused refusal))))) ∷ []) sink.new) }
+    ensures err { OnErr result (S.came sink.old [] sink.new) }
+    ensures layout { S.layout sink.new ≡ S.layout sink.old }
+{
+    answer_now(alloc, sink, layout, origin, &Request::Refused(refusal))
+}
+
+/// Answers a call for whose name or data memory ran out, likewise.
+#[inline(never)]
+fn answer_undecoded<S: RecordSink>(
+    alloc: Global,
+    sink: &mut S,
+    layout: &Layout,
+    origin: Origin,
+) -> Result<(), AllocError>
+    ensures ok { OnOk result (S.came sink.old (Answered (addressed origin.connection.0
+        (message origin.xid (reply_at_once (layout_of layout.now)
+        (asked_of Undecoded)))) ∷ []) sink.new) }
+    ensures err { OnErr result (S.came sink.old [] sink.new) }
+    ensures layout { S.layout sink.new ≡ S.layout sink.old }
+{
+    answer_now(alloc, sink, layout, origin, &Request::Undecoded)
+}
+
 /// Answers a call that was read and has no home, and takes it along.
 #[inline(never)]
 fn answer_read<S: RecordSink>(
@@ -129,8 +165,8 @@ pub(crate) fn give<S: RecordSink>(
     match verdict {
         Verdict::Called => {
             if !may_ask(peer, &asked.call, &asked.caller) {
-                let refused = Request::Refused(Refusal::AuthError(AuthFault::TooWeak));
-                return answer_now(alloc, sink, layout, origin, &refused);
+                let refusal = Refusal::AuthError(AuthFault::TooWeak);
+                return refuse(alloc, sink, layout, origin, refusal);
             }
             asked.caller = caller_at(peer, asked.caller);
             match admission_of(layout, &asked.call) {
@@ -138,9 +174,7 @@ pub(crate) fn give<S: RecordSink>(
                 None => answer_read(alloc, sink, layout, origin, asked),
             }
         }
-        Verdict::Refused(refusal) => {
-            answer_now(alloc, sink, layout, origin, &Request::Refused(refusal))
-        }
-        Verdict::Undecoded => answer_now(alloc, sink, layout, origin, &Request::Undecoded),
+        Verdict::Refused(refusal) => refuse(alloc, sink, layout, origin, refusal),
+        Verdict::Undecoded => answer_undecoded(alloc, sink, layout, origin),
     }
 }

@@ -17,7 +17,8 @@ use Rattle.service.proofs.in_logical.change_once.Goals as goal
 pub returns-in-Some-clause-runs : goal.returns-in-Some-clause-runs
 returns-in-Some-clause-runs c =
     again-runs (layout_of c.args.layout.now) (named_of c.args.named) (caller_of c.args.run.caller.now) (moment_of c.args.run.moment)
-    (call_of c.args.run.call.now) (logical_before c.args.held.now) (answer_of c.in-Some.answer) c.in-Some.ensures
+    (call_of c.args.run.call.now) (logical_before c.args.held.now) c.in-Some.told (outcome_of c.tell_again.result) (sym c.in-Some.ensures)
+    c.tell_again.ensures
 
 pub returns-clause-runs : goal.returns-clause-runs
 returns-clause-runs c =
@@ -31,7 +32,7 @@ returns-clause-runs c =
     let outcome = outcome_of c.change-outcome.result in
     subst (λ (o : LogicalValue). RunsOn n.volume logical_lens (call_named L n caller moment call) old outcome (record new { own = o }))
     (sym c.remember.ensures)
-    (first-runs L n caller moment call old new outcome (sym (ap (option_map answer_of) c.in_default.is) ∙ c.told_before.ensures)
+    (first-runs L n caller moment call old new outcome (sym (told_before-is))
     c.change-outcome.ensures.runs)
 
 pub returns-clause-moved : goal.returns-clause-moved

@@ -59,7 +59,7 @@ pub returns-in-Refused-clause-ok : goal.returns-in-Refused-clause-ok
 returns-in-Refused-clause-ok g c =
     let layout = layout_of c.args.layout.now in
     let asked = c.args.asked.now in
-    let to = c.answer_now-in-Refused in
+    let to = c.refuse-in-Refused in
     subst (λ (v : Verdict). OnOk to.result (g.S.RecordSink.came c.args.sink.now
     (given_of layout c.args.peer c.args.origin (asked_of (request_at asked.call asked.caller v))) to.new.sink))
     (sym c.in-Refused.is)
@@ -71,7 +71,7 @@ pub returns-in-Undecoded-clause-ok : goal.returns-in-Undecoded-clause-ok
 returns-in-Undecoded-clause-ok g c =
     let layout = layout_of c.args.layout.now in
     let asked = c.args.asked.now in
-    let to = c.answer_now-in-Undecoded in
+    let to = c.answer_undecoded in
     subst (λ (v : Verdict). OnOk to.result (g.S.RecordSink.came c.args.sink.now
     (given_of layout c.args.peer c.args.origin (asked_of (request_at asked.call asked.caller v))) to.new.sink))
     (sym c.in-Undecoded.is)
