@@ -27,8 +27,8 @@ use Rattle.connections.proofs.watched.Watched.TheSendSync as watched
 use Rattle.connections.specs.contracts.connection.Connection as Connection
 use Rattle.lanes.specs.contracts.intake.Intake as Intake
 use Rattle.lanes.specs.contracts.lane.Lane as Lane
-use Rattle.lanes.specs.contracts.replies.Replies as Replies
-use Rattle.lanes.specs.contracts.replies.Replies.TheInside as RepliesInside
+use Rattle.lanes.specs.contracts.lane_outboxes.LaneOutboxes as LaneOutboxes
+use Rattle.lanes.specs.contracts.lane_outboxes.LaneOutboxes.TheInside as LaneOutboxesInside
 use Rattle.connections.specs.contracts.rest.Rest as Rest
 use Rattle.connections.specs.contracts.rest.Rest.TheInside as RestInside
 use Rattle.connections.specs.declared.device.Device as devices
@@ -61,9 +61,9 @@ connection-send D d = declared_send (Connection.the_type D) (
   ),
 )
 
-replies-send : IsSend Replies.the_row
-replies-send = view_send RepliesInside.the_row _ _ _ _
-    (struct-send RepliesInside.the_type (search (outboxes-send, sendable) depth 20, (search (spent-send, crosses, sendable) depth 20, tt)))
+replies-send : IsSend LaneOutboxes.the_row
+replies-send = view_send LaneOutboxesInside.the_row _ _ _ _
+    (struct-send LaneOutboxesInside.the_type (search (outboxes-send, sendable) depth 20, (search (spent-send, crosses, sendable) depth 20, tt)))
 
 intake-send : (R : RattleType) → IsSend R → IsSend (Intake.the_row R)
 intake-send R r = declared_send (Intake.the_type R) (

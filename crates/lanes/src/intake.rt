@@ -6,8 +6,8 @@ ghost use Rattle.granted_calls.specs.Filers.{layout_in, layout_known};
 ghost use Rattle.turns.specs.Words.{TakesFrom};
 ghost use Rattle.lanes.specs.Queues.{HasBoth, IsCounted};
 
+use crate::lane_outboxes::LaneOutboxes;
 use crate::placing::put_last;
-use crate::replies::Replies;
 use affinity::{CallNode, Layout};
 use connections::Due;
 use granted_calls::shared_waiting::{Pass, SharedWaiting};
@@ -37,7 +37,7 @@ pub struct Intake<R> {
     pub(crate) queue: SharedWaiting<Envelope, Layout>,
     pub(crate) pass: Pass<Envelope, Layout>,
     pub(crate) worker: Worker,
-    pub(crate) outboxes: Replies,
+    pub(crate) outboxes: LaneOutboxes,
     /// How many messages were admitted and not finished: those in the queue, and the one that the
     /// worker keeps, if it keeps one.
     pub(crate) waiting: usize,

@@ -4,11 +4,11 @@
 
 mod intake;
 mod lane;
+mod lane_outboxes;
 mod placing;
-mod replies;
 
 pub use engine_feed::StreamFault;
 pub use intake::Intake;
 pub use lane::{Lane, LaneParts};
-pub use replies::Replies;
+pub use lane_outboxes::LaneOutboxes;
 pub use tcp_front::Stopped;

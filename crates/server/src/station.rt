@@ -16,10 +16,13 @@ use std::net::Net;
 use std::sync::Arc;
 use tends::StartRefusal;
 
+/// How many bytes are read at once: seven WRITEs of 64 KiB.
+const BLOCK_BYTES: usize = 524_288;
+
 /// The most events that one poll gives.
 const EVENTS: usize = 128;
 
-/// What a lane reads into, as large as what it joins replies in.
+/// What a lane reads into, and what it joins replies in.
 #[derive(Drop)]
 pub(crate) struct Buffers {
     pub(crate) block: Vec<u8>,
@@ -28,10 +31,10 @@ pub(crate) struct Buffers {
 }
 
 impl Buffers {
-    /// 256 KiB of each.
+    /// 512 KiB, and 256 KiB.
     fn new(alloc: Global) -> Result<Buffers, AllocError> {
         Ok(Buffers {
-            block: vec![in alloc; 0; BUFFER_BYTES]?,
+            block: vec![in alloc; 0; BLOCK_BYTES]?,
             buffer: Vec::with_capacity(alloc, BUFFER_BYTES)?,
         })
     }

@@ -68,10 +68,7 @@ pub fn run_on_logical(
     look_ahead(run.ahead, volume, held);
     let fileid = fileid_of_call(layout, run.call);
     let named = Named { volume, fileid };
-    if !is_told(run.call) {
-        return change_once(run, layout, held, named);
-    }
-    // here, since a function of its own would move the outcome once more
+    // One match, since each function between moves an outcome once more.
     match run.call {
         Call::GetAttributes { handle } => get_attributes_here(run, held, named, handle),
         Call::Lookup(target) => lookup_here(run, held, named, target),
@@ -116,7 +113,7 @@ pub fn run_on_logical(
         Call::PathConfiguration { handle } => path_configuration_here(run, held, named, handle),
         Call::Commit { handle } => commit_here(run, held, named, handle),
         Call::MountBelow { root, path } => mount_below_here(run, held, named, root, path),
-        _ => unreachable!(),
+        _ => change_once(run, layout, held, named),
     }
 }
 
@@ -125,26 +122,6 @@ fn look_ahead(ahead: Option<&Ahead>, volume: VolumeNumber, held: &LogicalHeld<Fi
     if let Some(ahead) = ahead {
         ahead.look(volume, held);
     }
-}
-
-/// Whether a call changes nothing of what is under Volume Logical.
-fn is_told(call: &Call) -> bool
-    ensures { result ≡ is_told call.now }
-{
-    matches!(
-        call,
-        Call::GetAttributes { .. }
-            | Call::Lookup(_)
-            | Call::CheckAccess { .. }
-            | Call::ReadLink { .. }
-            | Call::Read { .. }
-            | Call::ReadDirectory { .. }
-            | Call::ReadDirectoryPlus { .. }
-            | Call::FilesystemInfo { .. }
-            | Call::PathConfiguration { .. }
-            | Call::Commit { .. }
-            | Call::MountBelow { .. }
-    )
 }
 
 /// Runs a call that may change the volume of what its handle names, on the volume's parcels. One

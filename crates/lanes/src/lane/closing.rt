@@ -1,7 +1,7 @@
 //! Connections that are looked at and closed.
 
 use crate::lane::Lane;
-use crate::replies::close_in;
+use crate::lane_outboxes::close_in;
 use connections::{Connection, Device, Flags, flag_under};
 
 impl<D: Device, R> Lane<D, R> {

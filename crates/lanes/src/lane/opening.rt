@@ -2,7 +2,7 @@
 
 use crate::intake::Intake;
 use crate::lane::Lane;
-use crate::replies::{Replies, open_in};
+use crate::lane_outboxes::{LaneOutboxes, open_in};
 use affinity::Layout;
 use connections::{Device, Due};
 use granted_calls::shared_waiting::{Pass, SharedWaiting};
@@ -75,7 +75,7 @@ impl<D: Device, R> Lane<D, R> {
                 queue,
                 pass,
                 worker,
-                outboxes: Replies::new(
+                outboxes: LaneOutboxes::new(
                     alloc,
                     Outboxes::with_room_for(alloc, most_open, lane, lanes),
                 ),

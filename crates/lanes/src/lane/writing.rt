@@ -1,7 +1,7 @@
 //! Connections that are written.
 
 use crate::lane::Lane;
-use crate::replies::write_in;
+use crate::lane_outboxes::write_in;
 use connections::{Device, Sent};
 
 impl<D: Device, R> Lane<D, R> {

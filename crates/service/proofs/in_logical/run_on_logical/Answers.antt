@@ -9,8 +9,8 @@ use Rattle.service.specs.Running.{outcome_of}
 use Rattle.service.proofs.Runs.{runs-here, told-here}
 use Rattle.service.proofs.in_logical.run_on_logical.Goals as goal
 
-pub returns-then-not-is_told-clause-runs : goal.returns-then-not-is_told-clause-runs
-returns-then-not-is_told-clause-runs c =
+pub returns-in_default-clause-runs : goal.returns-in_default-clause-runs
+returns-in_default-clause-runs c =
     let v = c.args.volume.0 in
     runs-here (layout_of c.args.layout.now) v logical_lens (Logical v) c.fileid_of_call-fileid.result.0 (call_of c.args.run.call.now)
     (caller_of c.args.run.caller.now) (moment_of c.args.run.moment) (logical_before c.args.held.now) (logical_after c.args.held.now c.change_once.new.held)

@@ -21,19 +21,19 @@ use tcp_front::Peer;
 const MOST_SPARE: usize = 1_024;
 
 /// A lane's outboxes, and the memory of calls that were finished, for those to come.
-pub struct Replies {
+pub struct LaneOutboxes {
     boxes: Outboxes,
     spare: Vec<Spent>,
 }
 
 // By hand, so that crates above have no proof of the drop of each of its parts.
-impl Drop for Replies {
+impl Drop for LaneOutboxes {
     fn drop(self) {
-        let Replies { boxes: _, spare: _ } = self;
+        let LaneOutboxes { boxes: _, spare: _ } = self;
     }
 }
 
-impl Model for Replies {
+impl Model for LaneOutboxes {
     ghost use Rattle.std.specs.Coded.{codes};
     ghost use Rattle.outboxes.specs.Boxes.{Boxes, coded_boxes};
 
@@ -44,7 +44,7 @@ impl Model for Replies {
     ghost view = { λ r. r.boxes };
 }
 
-impl Replies {
+impl LaneOutboxes {
     ghost use Rattle.std.specs.Prelude.{◌≡◌, ◌≤◌, length, IfOk, OnOk, OnErr};
     ghost use Rattle.nfs_values.specs.Reply.{reply_of};
     ghost use Rattle.outboxes.specs.Boxes.{addressed, most_bytes, put};
@@ -52,10 +52,10 @@ impl Replies {
     ghost use Rattle.scheduler.specs.Messages.{message_at};
 
     /// These outboxes, and no memory beside them.
-    pub(crate) fn new(alloc: Global, boxes: Outboxes) -> Replies
+    pub(crate) fn new(alloc: Global, boxes: Outboxes) -> LaneOutboxes
         ensures { result ≡ boxes }
     {
-        Replies {
+        LaneOutboxes {
             boxes,
             spare: Vec::new(alloc),
         }
@@ -98,7 +98,7 @@ impl Replies {
     }
 }
 
-impl AnswerSink for Replies {
+impl AnswerSink for LaneOutboxes {
     ghost use Rattle.granted_calls.specs.Chains.{HasPutAll};
     ghost use Rattle.granted_calls.specs.lemmas.Putting.{put_none, put_more};
 
@@ -121,7 +121,7 @@ impl AnswerSink for Replies {
 pub(crate) fn open_in<D: Device>(
     connections: &mut Slab<Connection<D>>,
     alloc: Global,
-    outboxes: &mut Replies,
+    outboxes: &mut LaneOutboxes,
     device: D,
     peer: Peer,
 ) -> Result<usize, D>
@@ -138,7 +138,7 @@ pub(crate) fn open_in<D: Device>(
 pub(crate) fn write_in<D: Device>(
     connections: &mut Slab<Connection<D>>,
     key: usize,
-    outboxes: &mut Replies,
+    outboxes: &mut LaneOutboxes,
     buffer: &mut Vec<u8>,
 ) -> Sent
     ensures { WritesUnder D.unread D.written connections.old key (get connections.old key)
@@ -151,7 +151,7 @@ pub(crate) fn write_in<D: Device>(
 pub(crate) fn close_in<D>(
     connections: &mut Slab<Connection<D>>,
     key: usize,
-    outboxes: &mut Replies,
+    outboxes: &mut LaneOutboxes,
 ) -> Option<Connection<D>>
     ensures closes { Closes connections.old key outboxes.old (get connections.old key)
         (option_map now_of result) connections.new outboxes.new }
