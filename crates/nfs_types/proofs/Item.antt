@@ -1,6 +1,6 @@
 -- An entry of a directory behind TRUE, put together in an array with zeros behind it.
 use Rattle.std.proofs.Common.{◌≡◌, sym, ap, ◌∙◌, ℕ, ◌+◌, ◌-◌, ◌≤◌, List, ◌++◌, length, take, drop, replicate, append_assoc, arith}
-use Rattle.std.proofs.lemmas.List.{take_at, drop_at, take-take, length-append, length-replicate, replicate-append-replicate}
+use Rattle.std.proofs.lemmas.List.{take_at, drop_at, length-append, length-replicate, replicate-append-replicate}
 use Rattle.std.proofs.Math.Seq.{take-append-add}
 use borrow.Rule.Slice.PartMut.{put_mid}
 use Rattle.xdr.specs.Shape.{word, hyper, padding, padded, counted}
@@ -48,14 +48,15 @@ cookie-put head name tail size k h l s e =
 joined : (a b c name d zeros : List ℕ) → ((a ++ (b ++ c)) ++ name) ++ (d ++ zeros) ≡ a ++ ((b ++ ((c ++ name) ++ d)) ++ zeros)
 joined a b c name d zeros = simp append_assoc
 
-pub item-put : (fileid cookie : ℕ) (name head part tail : List ℕ) (size k m : ℕ) → head ≡ word 1 ++ (hyper fileid ++ word (length name)) → part ≡ name
+pub item-put : (fileid cookie : ℕ) (name bytes head part tail : List ℕ) (size k m : ℕ) → bytes ≡ replicate 56 0 → head ≡ word 1 ++ (hyper fileid ++ word (length name)) → part ≡ name
     → tail ≡ hyper cookie → length name ≤ 32 → size ≡ length (padded name) → k ≡ length name → m ≡ 8
-    → put_mid (16 + size) m (put_mid 16 k (head ++ replicate 40 0) part) tail
+    → put_mid (16 + size) m (put_mid 16 k (head ++ drop 16 bytes) part) tail
     ≡ word 1 ++ ((hyper fileid ++ (counted name ++ hyper cookie)) ++ replicate (32 - length (padded name)) 0)
-item-put fileid cookie name head part tail size k m h p t l s e f =
+item-put fileid cookie name bytes head part tail size k m b h p t l s e f =
     let long : length head ≡ 16 = ap length h in
     let zeros = replicate {A = ℕ} (32 - length (padded name)) 0 in
-    ap (λ y. put_mid (16 + size) m (put_mid 16 k (head ++ replicate 40 0) y) tail) p
+    ap (λ zs. put_mid (16 + size) m (put_mid 16 k (head ++ drop 16 zs) part) tail) b
+    ∙ ap (λ y. put_mid (16 + size) m (put_mid 16 k (head ++ replicate 40 0) y) tail) p
     ∙ ap (λ xs. put_mid (16 + size) m xs tail) (name-put head name k long l e)
     ∙ cookie-put head name tail size m long l s f
     ∙ ap (λ x. (x ++ padded name) ++ (tail ++ zeros)) h
@@ -72,17 +73,11 @@ first-kept out bytes appended kept n count a k e =
 pub length-entry : (fileid cookie : ℕ) (name : List ℕ) → length (hyper fileid ++ (counted name ++ hyper cookie)) ≡ 20 + length (padded name)
 length-entry fileid cookie name = omega (arith, length-append (padded name) (hyper cookie))
 
--- an item without the zeros behind it, with TRUE and without
+-- an item without the zeros behind it
 pub item-kept : (out item spelled zeros new : List ℕ) (count : ℕ) → item ≡ word 1 ++ (spelled ++ zeros) → new ≡ out ++ take count item
     → count ≡ 4 + length spelled → new ≡ out ++ (word 1 ++ spelled)
 item-kept out item spelled zeros new count i n e =
     n ∙ ap (λ l. out ++ take count l) i ∙ ap (λ l. out ++ l) (take_at (word 1 ++ spelled) zeros count (omega (arith, e)))
-
-pub entry-kept : (out item spelled zeros new : List ℕ) (count : ℕ) → item ≡ word 1 ++ (spelled ++ zeros)
-    → new ≡ out ++ take count (take 52 (drop 4 item)) → count ≡ length spelled → count ≤ 52 → new ≡ out ++ spelled
-entry-kept out item spelled zeros new count i n e l =
-    n ∙ ap (λ t. out ++ t) (take-take count 52 (drop 4 item) l)
-    ∙ ap (λ t. out ++ take count (drop 4 t)) i ∙ ap (λ t. out ++ t) (take_at spelled zeros count (sym e))
 
 pub length-item : (out one new : List ℕ) → new ≡ out ++ (word 1 ++ one) → length new ≡ length out + (4 + length one)
 length-item out one new n = omega (arith, ap length n, length-append out (word 1 ++ one))

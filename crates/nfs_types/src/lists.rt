@@ -30,11 +30,6 @@ impl Encode for DirectoryEntry {
 
     fn write(&self, out: &mut Vec<u8>) {
         let name = self.name.as_bytes();
-        if is_short(name, out) {
-            let item = item(self.fileid, name, self.cookie);
-            append_first(out, &item[4..], 20 + size_of_fixed(name));
-            return;
-        }
         append(out, &before_name(self.fileid, name.len() as u32)[4..]);
         append(out, name);
         pad(out, name.len());
@@ -61,18 +56,17 @@ fn before_name(fileid: Fileid, size: u32) -> [u8; 16]
     before
 }
 
-/// TRUE, an entry with a short name, and zeros behind it.
-fn item(fileid: Fileid, name: &[u8], cookie: Cookie) -> [u8; ITEM_SIZE]
-    requires { length name.now ≤ 32 }
-    ensures { result ≡ word 1 ++ (spelling entry_shape (fileid.0, (name.now, cookie.0))
+/// Puts TRUE and an entry with a short name in the place of zeros.
+fn put_item(bytes: &mut [u8; ITEM_SIZE], fileid: Fileid, name: &[u8], cookie: Cookie)
+    requires zeros { bytes.old ≡ replicate 56 0 }
+    requires short { length name.now ≤ 32 }
+    ensures { bytes.new ≡ word 1 ++ (spelling entry_shape (fileid.0, (name.now, cookie.0))
         ++ replicate (32 - length (padded name.now)) 0) }
 {
-    let mut bytes = [0; ITEM_SIZE];
     bytes[..16].copy_from_slice(&before_name(fileid, name.len() as u32));
     bytes[16..16 + name.len()].copy_from_slice(name);
     let end = 16 + size_of_fixed(name);
     bytes[end..end + 8].copy_from_slice(&cookie.0.to_be_bytes());
-    bytes
 }
 
 /// Appends the first of these bytes. There is room for all, so that a known number is copied.
@@ -99,7 +93,8 @@ fn write_item(entry: &DirectoryEntry, out: &mut Vec<u8>)
 {
     let name = entry.name.as_bytes();
     if is_short(name, out) {
-        let item = item(entry.fileid, name, entry.cookie);
+        let mut item = [0; ITEM_SIZE];
+        put_item(&mut item, entry.fileid, name, entry.cookie);
         append_first(out, &item, 24 + size_of_fixed(name));
         return;
     }

@@ -10,7 +10,7 @@ returns-then-is_short-clause-items c =
     let fileid = c.args.entry.now.fileid.0 in
     let cookie = c.args.entry.now.cookie.0 in
     let name = c.as_bytes-name.result.now in
-    item-kept c.args.out.now.items c.item-item.result (hyper fileid ++ (counted name ++ hyper cookie)) _ c.append_first.new.out.items _ c.item-item.ensures
+    item-kept c.args.out.now.items c.put_item.new.bytes (hyper fileid ++ (counted name ++ hyper cookie)) _ c.append_first.new.out.items _ c.put_item.ensures
     c.append_first.ensures.items (omega (arith, length-entry fileid cookie name, c.size_of_fixed.ensures))
     ∙ ap (λ bytes. c.args.out.now.items ++ (word 1 ++ (hyper fileid ++ (counted bytes ++ hyper cookie)))) c.as_bytes-name.ensures
 
