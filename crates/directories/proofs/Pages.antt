@@ -158,3 +158,11 @@ run-longer initial old new left rest es n f =
     let c = length-map new entry_of in
     let d = length-map old entry_of in
     let none = none-in-none rest in omega (arith, whole, a, b, c, d, n, none)
+
+-- the first of what is left fits
+pub first-fits : (es : List Listed) (i room size : ℕ) (e : Listed) → slice_get es i ≡ Some e → size ≡ entry_size e → size ≤ room
+    → 0 < length (fitting room (drop i es))
+first-fits es i room size e g s f =
+    let rest = fitting (room - entry_size e) (drop (suc i) es) in
+    let head : fitting room (drop i es) ≡ e ∷ rest = ap (λ d. fitting room d) (drop-at es i e g) ∙ fits-one room e (drop (suc i) es) (omega (arith, s, f)) in
+    let whole : length (fitting room (drop i es)) ≡ length (e ∷ rest) = ap (λ (l : List Listed). length l) head in omega (arith, whole)

@@ -40,7 +40,7 @@ at-least low es next cookie h t = let n = none-below low es next cookie h in gri
 
 -- ---- those above a cookie
 
-all-above : (low : ℕ) (es : List Listed) (next cookie : ℕ) → Rises low es next → cookie < low → above_cookie cookie es ≡ es
+pub all-above : (low : ℕ) (es : List Listed) (next cookie : ℕ) → Rises low es next → cookie < low → above_cookie cookie es ≡ es
 all-above low [] next cookie h l = refl
 all-above low (e ∷ es) next cookie h l = let a = h.0 in let r = all-above (e.cookie + 1) es next cookie h.1 (omega arith) in grind (arith, nat_tests, r)
 

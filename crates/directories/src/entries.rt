@@ -18,6 +18,8 @@ ghost use Rattle.std.specs.Prelude.{
   IfOk,
   OnOk,
   OnErr,
+  vec_len,
+  vec_capacity,
 };
 ghost use Rattle.std.specs.List.{AllByRecursion, slice_get};
 ghost use Rattle.nfs_model.specs.Types.{Listed};
@@ -48,6 +50,9 @@ use nfs_values::answer::DirectoryEntry;
 use nfs_values::{Cookie, Fileid, Name};
 use std::alloc::{AllocError, Global};
 use std::marker::Model;
+
+/// The first cookie that an entry takes: 1 and 2 are those of `.` and `..`.
+const FIRST_COOKIE: u64 = 3;
 
 /// Entries by rising cookies, from 3 on, and the next cookie.
 #[derive(Drop)]
@@ -83,7 +88,7 @@ impl Entries {
             slots: Vec::new(alloc),
             order: Sequence::new(alloc),
             vacant: u32::MAX,
-            next: Cookie(3),
+            next: Cookie(FIRST_COOKIE),
         }
     }
 
@@ -174,6 +179,7 @@ impl Entries {
         let after = position_after(&self.slots, &self.order, cookie);
         let remaining = self.order.len() - after;
         let before = entries.len();
+        make_room(&self.slots, &self.order, after, room, entries)?;
         append_fitting(alloc, &self.slots, &self.order, after, room, entries)?;
         Ok(entries.len() - before == remaining)
     }
@@ -229,6 +235,9 @@ fn position_after(slots: &[Slot], order: &Sequence<u32>, cookie: Cookie) -> usiz
     ensures after { let entries = in_order slots.now order.now in
         above_cookie cookie.0 entries ≡ drop result entries }
 {
+    if cookie.0 < FIRST_COOKIE {
+        return 0;
+    }
     let mut low = 0;
     let mut high = order.len();
     let mut part = order.part();
@@ -242,6 +251,30 @@ fn position_after(slots: &[Slot], order: &Sequence<u32>, cookie: Cookie) -> usiz
         }
     }
     low
+}
+
+/// Makes room for the entries from a position of the order on, as many as would fit into a number
+/// of bytes if all were as long as the first. Memory runs out only where that one fits.
+fn make_room(
+    slots: &[Slot],
+    order: &Sequence<u32>,
+    after: usize,
+    room: usize,
+    entries: &mut Vec<DirectoryEntry>,
+) -> Result<(), AllocError>
+    requires { AllByRecursion (λ s. is_some (in_slot slots.now s) ≡ true) order.now }
+    ensures same { entries.new.items ≡ entries.old.items }
+    ensures err { OnErr result
+        (0 < length (fitting room (drop after (in_order slots.now order.now)))) }
+{
+    if after >= order.len() {
+        return Ok(());
+    }
+    let size = size_of(entry_in(slots, order.at(after)));
+    if size > room {
+        return Ok(());
+    }
+    entries.reserve((room / size).min(order.len() - after))
 }
 
 /// Appends the entries from a position of the order on that fit into a number of bytes. Memory runs
@@ -297,9 +330,30 @@ fn copy_run(
             return Ok(None);
         }
         left -= size;
-        copied.push(copy(alloc, entry)?)?;
+        make_place(copied)?;
+        copied.push_reserved(copy(alloc, entry)?);
     }
     Ok(Some(left))
+}
+
+/// Makes room for one more entry, if there is none.
+fn make_place(entries: &mut Vec<DirectoryEntry>) -> Result<(), AllocError>
+    ensures same { entries.new.items ≡ entries.old.items }
+    ensures ok { OnOk result (vec_len entries.new < vec_capacity entries.new) }
+{
+    if entries.len() < entries.capacity() {
+        return Ok(());
+    }
+    grow(entries)
+}
+
+/// Makes room for one more entry: rarely called, and so no part of the loop that copies.
+#[inline(never)]
+fn grow(entries: &mut Vec<DirectoryEntry>) -> Result<(), AllocError>
+    ensures same { entries.new.items ≡ entries.old.items }
+    ensures ok { OnOk result (vec_len entries.new < vec_capacity entries.new) }
+{
+    entries.reserve(1)
 }
 
 /// The bytes of an entry in a page.

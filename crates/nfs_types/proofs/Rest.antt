@@ -5,8 +5,9 @@ use Rattle.std.proofs.lemmas.List.{length-map, at_drop_more}
 use Rattle.std.proofs.lemmas.Simd.{map-map}
 use Rattle.xdr.specs.Shape.{Shape, Chain, Value, word, spelling}
 use Rattle.nfs_values.specs.declared.answer.VolumeCount.{VolumeCount}
-use Rattle.nfs_values.specs.Answer.{count_of}
-use Rattle.nfs_types.specs.Results.{count_shape, count_value}
+use Rattle.nfs_values.specs.declared.answer.DirectoryEntry.{DirectoryEntry}
+use Rattle.nfs_values.specs.Answer.{count_of, entry_of}
+use Rattle.nfs_types.specs.Results.{count_shape, count_value, entry_shape, entry_value}
 use Rattle.nfs_types.specs.lemmas.Lists as lists
 
 -- the items of a list
@@ -18,6 +19,13 @@ pub chain_more : {T : Type 0} (shape : Shape) (value : T → Value shape) (items
 chain_more {T} shape value items i x lt e =
     at_drop_more (chain_spelled shape value) items i x lt
     ∙ ap (λ (y : T). chain_spelled shape value (y ∷ drop (i + 1) items)) (sym e)
+
+-- the entries of a list, and one of them
+abbrev pub entries_spelled : List DirectoryEntry → List ℕ
+entries_spelled entries = chain_spelled entry_shape (λ e. entry_value (entry_of e)) entries
+
+abbrev pub entry_spelled : DirectoryEntry → List ℕ
+entry_spelled e = spelling entry_shape (entry_value (entry_of e))
 
 -- what the items of a list that was lent stand for, in two steps
 pub told_twice : {A B C : Type 0} (g : B → C) (f : A → B) (lent items : List A) → lent ≡ items → map g (map f items) ≡ map (λ x. g (f x)) lent

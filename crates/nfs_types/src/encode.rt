@@ -106,7 +106,7 @@ impl<A: Encode, B: Encode> Encode for (A, B) {
 }
 
 /// How many bytes the bytes and their padding take.
-fn size_of_fixed(bytes: &[u8]) -> usize
+pub(crate) fn size_of_fixed(bytes: &[u8]) -> usize
     requires { length (padded bytes.now) < 2 ^ 32 }
     ensures { result ≡ length (padded bytes.now) }
 {

@@ -1,17 +1,23 @@
 //! Lists in results.
 
-ghost use Rattle.std.specs.Prelude.{◌≡◌, ◌+◌, ◌≤◌, ◌<◌, ◌^◌, ◌++◌, length, map, replicate};
+ghost use Rattle.std.specs.Prelude.{◌≡◌, ◌+◌, ◌≤◌, ◌<◌, ◌^◌, ◌-◌, ◌++◌, length, map, replicate, take, true};
 ghost use Rattle.std.specs.Prelude.{vec_len, vec_capacity};
 ghost use Rattle.std.specs.List.{flat_map};
-ghost use Rattle.xdr.specs.Shape.{Chain, Hyper, Word, padding, spelling};
+ghost use Rattle.xdr.specs.Shape.{Chain, Hyper, Word, padded, padding, spelling, word};
 ghost use Rattle.nfs_values.specs.Attributes.{shown_of};
 ghost use Rattle.nfs_values.specs.Answer.{entry_of, count_of};
 ghost use Rattle.nfs_types.specs.Results.{entry_shape, entry_value, readdir_shape, readdir_value};
 ghost use Rattle.nfs_types.specs.Results.{page_bytes, count_shape, count_value, census_shape};
 
-use crate::encode::{Encode, append, size_of_present, write_present};
+use crate::encode::{Encode, append, size_of_fixed, size_of_present, write_present};
 use nfs_values::answer::{DirectoryEntry, ReadDirectoryResults, VolumeCount};
-use nfs_values::{Attributes, Fileid, Verifier};
+use nfs_values::{Attributes, Cookie, Fileid, Verifier};
+
+/// The most bytes of a name that is put together with what stands around it.
+const MOST_SHORT: usize = 32;
+
+/// The most bytes of an entry with such a name and TRUE before it.
+const ITEM_SIZE: usize = 56;
 
 impl Encode for DirectoryEntry {
     ghost shape = { entry_shape };
@@ -24,21 +30,95 @@ impl Encode for DirectoryEntry {
 
     fn write(&self, out: &mut Vec<u8>) {
         let name = self.name.as_bytes();
-        append(out, &before_name(self.fileid, name.len() as u32));
+        append(out, &before_name(self.fileid, name.len() as u32)[4..]);
         append(out, name);
         pad(out, name.len());
         self.cookie.write(out);
     }
 }
 
-/// What stands before the bytes of an entry's name: its fileid, and how many they are.
-fn before_name(fileid: Fileid, size: u32) -> [u8; 12]
-    ensures { result ≡ spelling Hyper fileid.0 ++ spelling Word size }
+/// Whether a name can be put together with what stands around it, and there is room for all.
+fn is_short(name: &[u8], out: &Vec<u8>) -> bool
+    ensures short { result ≡ true → length name.now ≤ 32 }
+    ensures room { result ≡ true → vec_len out.now + 56 ≤ vec_capacity out.now }
 {
-    let mut before = [0; 12];
-    before[..8].copy_from_slice(&fileid.0.to_be_bytes());
-    before[8..].copy_from_slice(&size.to_be_bytes());
+    name.len() <= MOST_SHORT && out.capacity() - out.len() >= ITEM_SIZE
+}
+
+/// What stands before the bytes of an entry's name: TRUE, its fileid, and how many they are.
+fn before_name(fileid: Fileid, size: u32) -> [u8; 16]
+    ensures { result ≡ word 1 ++ (spelling Hyper fileid.0 ++ spelling Word size) }
+{
+    let mut before = [0; 16];
+    before[..4].copy_from_slice(&1u32.to_be_bytes());
+    before[4..12].copy_from_slice(&fileid.0.to_be_bytes());
+    before[12..].copy_from_slice(&size.to_be_bytes());
     before
+}
+
+/// Puts TRUE and an entry with a short name in the place of zeros.
+fn put_item(bytes: &mut [u8; ITEM_SIZE], fileid: Fileid, name: &[u8], cookie: Cookie)
+    requires zeros { bytes.old ≡ replicate 56 0 }
+    requires short { length name.now ≤ 32 }
+    ensures { bytes.new ≡ word 1 ++ (spelling entry_shape (fileid.0, (name.now, cookie.0))
+        ++ replicate (32 - length (padded name.now)) 0) }
+{
+    bytes[..16].copy_from_slice(&before_name(fileid, name.len() as u32));
+    bytes[16..16 + name.len()].copy_from_slice(name);
+    let end = 16 + size_of_fixed(name);
+    bytes[end..end + 8].copy_from_slice(&cookie.0.to_be_bytes());
+}
+
+/// Appends the first of these bytes. There is room for all, so that a known number is copied.
+fn append_first(out: &mut Vec<u8>, bytes: &[u8], count: usize)
+    requires room { vec_len out.old + length bytes.now ≤ vec_capacity out.old }
+    requires within { count ≤ length bytes.now }
+    ensures items { out.new.items ≡ out.old.items ++ take count bytes.now }
+    ensures capacity { vec_capacity out.old ≤ vec_capacity out.new }
+{
+    let start = out.len();
+    append(out, bytes);
+    out.truncate(start + count);
+}
+
+/// Appends an entry behind TRUE, for which there is room.
+fn write_item(entry: &DirectoryEntry, out: &mut Vec<u8>)
+    requires short { length (spelling entry_shape (entry_value (entry_of entry.now))) < 2 ^ 32 }
+    requires room { vec_len out.old
+        + (4 + length (spelling entry_shape (entry_value (entry_of entry.now))))
+        ≤ vec_capacity out.old }
+    ensures items { out.new.items
+        ≡ out.old.items ++ (word 1 ++ spelling entry_shape (entry_value (entry_of entry.now))) }
+    ensures capacity { vec_capacity out.old ≤ vec_capacity out.new }
+{
+    let name = entry.name.as_bytes();
+    if is_short(name, out) {
+        let mut item = [0; ITEM_SIZE];
+        put_item(&mut item, entry.fileid, name, entry.cookie);
+        append_first(out, &item, 24 + size_of_fixed(name));
+        return;
+    }
+    true.write(out);
+    entry.write(out);
+}
+
+/// Appends the entries of a list, each behind TRUE, for which there is room.
+fn write_items(entries: &[DirectoryEntry], out: &mut Vec<u8>)
+    requires short { length (spelling (Chain entry_shape)
+        (map (λ e. entry_value (entry_of e)) entries.now)) < 2 ^ 32 }
+    requires room { vec_len out.old
+        + length (spelling (Chain entry_shape)
+        (map (λ e. entry_value (entry_of e)) entries.now))
+        ≤ vec_capacity out.old }
+    ensures items { out.new.items
+        ≡ out.old.items ++ spelling (Chain entry_shape)
+        (map (λ e. entry_value (entry_of e)) entries.now) }
+    ensures capacity { vec_capacity out.old ≤ vec_capacity out.new }
+{
+    for entry in entries {
+        write_item(entry, out);
+    }
+    false.write(out);
 }
 
 /// Appends the padding of this many bytes, for which there is room: a few bytes of a known number
@@ -101,7 +181,7 @@ impl Encode for Vec<DirectoryEntry> {
     }
 
     fn write(&self, out: &mut Vec<u8>) {
-        write_chain(self, out);
+        write_items(self, out);
     }
 }
 

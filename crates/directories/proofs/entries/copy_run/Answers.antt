@@ -16,7 +16,7 @@ loop-slot-preserved c =
     let e = entry_of c.entry_in-entry.result.now in
     let es = in_order c.args.slots.now c.args.run.now in
     let element = element-at c.args.slots.now c.args.run.now c.loop-slot.slot-index _ e c.loop-slot-test.true refl c.entry_in-entry.ensures in
-    rw c.in_ok-push.ensures.items
+    rw (c.push_reserved.ensures.items, c.make_place.ensures.same)
     record {
       so_far = λ more. one-copied c.loop-slot.copied.items c.loop-slot.left c.loop-slot.slot-index (es ++ more)
           (listed c.args.copied.now.items ++ fitting c.args.room (es ++ more)) e c.in_ok-copy.field-0 c.size_of-size.result (c.loop-slot.invariant.so_far more)
@@ -45,15 +45,15 @@ returns-in_err-copy-clause-err c =
     let e = entry_of c.entry_in-entry.result.now in
     let es = in_order c.args.slots.now c.args.run.now in
     let element = element-at c.args.slots.now c.args.run.now c.loop-slot.slot-index _ e c.loop-slot-test.true refl c.entry_in-entry.ensures in
-    on-error c.from_residual.result (λ more. some-fit c.args.copied.now.items c.loop-slot.copied.items c.loop-slot.left c.loop-slot.slot-index
+    on-error c.from_residual-in_err-copy.result (λ more. some-fit c.args.copied.now.items c.loop-slot.copied.items c.loop-slot.left c.loop-slot.slot-index
     (es ++ more) c.args.room e c.size_of-size.result (c.loop-slot.invariant.so_far more) c.loop-slot.invariant.longer
     (in-front es more c.loop-slot.slot-index e element) c.size_of-size.ensures c.if-size-left.false)
 
-pub returns-in_err-push-clause-err : goal.returns-in_err-push-clause-err
-returns-in_err-push-clause-err c =
+pub returns-in_err-make_place-clause-err : goal.returns-in_err-make_place-clause-err
+returns-in_err-make_place-clause-err c =
     let e = entry_of c.entry_in-entry.result.now in
     let es = in_order c.args.slots.now c.args.run.now in
     let element = element-at c.args.slots.now c.args.run.now c.loop-slot.slot-index _ e c.loop-slot-test.true refl c.entry_in-entry.ensures in
-    on-error c.from_residual-in_err-push.result (λ more. some-fit c.args.copied.now.items c.loop-slot.copied.items c.loop-slot.left c.loop-slot.slot-index
+    on-error c.from_residual.result (λ more. some-fit c.args.copied.now.items c.loop-slot.copied.items c.loop-slot.left c.loop-slot.slot-index
     (es ++ more) c.args.room e c.size_of-size.result (c.loop-slot.invariant.so_far more) c.loop-slot.invariant.longer
     (in-front es more c.loop-slot.slot-index e element) c.size_of-size.ensures c.if-size-left.false)

@@ -4,7 +4,7 @@ use Rattle.directories.specs.Slots.{in_order}
 use Rattle.directories.specs.sequences.lemmas.Parts.{has-fewer, read-there as in-part}
 use Rattle.directories.proofs.Places.{below-middle, above-middle}
 use Rattle.directories.proofs.Slots.{filled-at, element-at, read-there}
-use Rattle.directories.proofs.Rising.{above-at}
+use Rattle.directories.proofs.Rising.{above-at, all-above}
 use Rattle.directories.proofs.entries.position_after.Goals as goal
 
 pub entry_in-requires : goal.entry_in-requires
@@ -59,6 +59,10 @@ loop-low-preserved c =
       before = c.loop-low.invariant.before;
       after = above-middle (in_order c.args.slots.now c.args.order.now) _ _ _ c.requires element c.if-entry_in-cookie.false;
     }
+
+pub returns-then-cookie-lt-FIRST_COOKIE-clause-after : goal.returns-then-cookie-lt-FIRST_COOKIE-clause-after
+returns-then-cookie-lt-FIRST_COOKIE-clause-after c =
+    all-above 3 (in_order c.args.slots.now c.args.order.now) c.requires.0 c.args.cookie.0 c.requires.1 (omega arith)
 
 pub returns-clause-after : goal.returns-clause-after
 returns-clause-after c =
