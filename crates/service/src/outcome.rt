@@ -23,28 +23,26 @@ pub enum Outcome {
 }
 
 /// What a READ comes to.
-#[inline(never)] // and without a match, else what it tells is moved once more
 pub(crate) fn outcome_read(read: Result<Result<ReadResults, Status>, AllocError>) -> Outcome
     ensures { outcome_of result ≡ reading_outcome read }
 {
-    let Ok(told) = read else {
-        return Outcome::Starved;
-    };
-    Outcome::Replied(Reply::Success(Answer::Read(told)))
+    match read {
+        Ok(told) => Outcome::Replied(Reply::Success(Answer::Read(told))),
+        Err(AllocError) => Outcome::Starved,
+    }
 }
 
 /// What a WRITE in a stripe of a volume comes to.
-#[inline(never)] // likewise
 pub(crate) fn outcome_written_in_stripe(
     volume: VolumeNumber,
     written: Option<Result<WriteResults, Status>>,
 ) -> Outcome
     ensures { outcome_of result ≡ writing_outcome volume.0 written }
 {
-    let Some(told) = written else {
-        return Outcome::Moved(CallNode::Logical(volume.0));
-    };
-    Outcome::Replied(Reply::Success(Answer::Write(told)))
+    match written {
+        Some(told) => Outcome::Replied(Reply::Success(Answer::Write(told))),
+        None => Outcome::Moved(CallNode::Logical(volume.0)),
+    }
 }
 
 /// What a WRITE under Volume Logical of a volume comes to, or under Volume.
