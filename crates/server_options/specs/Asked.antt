@@ -69,7 +69,7 @@ pub record IsBasic (plan : VolumePlan) : Type 0 where
 pub record HasRanges (ranges : ℕ) (plan : VolumePlan) : Type 0 where
   pub given : plan.ranges ≡ ranges
   pub range_blocks : plan.range_blocks ≡ 1024
-  pub stripes : plan.stripes ≡ 16
+  pub stripes : plan.stripes ≡ 8
   pub mib : plan.mib ≡ 64
   pub inodes : plan.inodes ≡ fewest_inodes
   pub steps : plan.most_steps ≡ exported_steps
@@ -91,7 +91,7 @@ pub record HasSize (bytes : ℕ) (plan : VolumePlan) : Type 0 where
   pub most : bytes_of plan ≤ bytes
   pub whole : bytes < bytes_of plan + range_bytes_of plan
   pub fewest : (plan.range_blocks ≡ 1024) ⊎ (8 * range_bytes_of plan < bytes)
-  pub stripes : plan.stripes ≡ 16
+  pub stripes : plan.stripes ≡ 8
   pub files : plan.mib ≡ max (bytes_of plan / mebibyte) 16
   pub inodes : plan.inodes ≡ max (bytes_of plan / 16384) fewest_inodes
   pub steps : plan.most_steps ≡ exported_steps

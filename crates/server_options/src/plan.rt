@@ -3,7 +3,9 @@
 ghost use Rattle.std.specs.Prelude.{◌≡◌, ◌≤◌, ◌<◌, ◌*◌, ◌⊎◌};
 ghost use Rattle.nfs_model.specs.volume.Ranges.{IsRangeSize};
 
-use affinity::{INODES, MEBIBYTE, MIB, MOST_INODES, MOST_RANGES, RANGE_BLOCKS, STEPS};
+use affinity::{
+    INODES, MEBIBYTE, MIB, MOST_INODES, MOST_RANGES, RANGE_BLOCKS, STEPS, STRIPES,
+};
 use nfs_values::{BLOCK_BYTES, Ownership};
 
 /// The bytes of a volume for each of its inodes.
@@ -85,7 +87,7 @@ impl VolumePlan {
         VolumePlan {
             ranges: 4,
             range_blocks: RANGE_BLOCKS,
-            stripes: 8,
+            stripes: STRIPES,
             mib: 16,
             inodes: INODES,
             most_steps: STEPS,
@@ -108,7 +110,7 @@ impl VolumePlan {
         Some(VolumePlan {
             ranges,
             range_blocks: RANGE_BLOCKS,
-            stripes: 16,
+            stripes: STRIPES,
             mib: 64,
             inodes: INODES,
             most_steps: EXPORTED_STEPS,
@@ -138,7 +140,7 @@ impl VolumePlan {
         Some(VolumePlan {
             ranges,
             range_blocks,
-            stripes: 16,
+            stripes: STRIPES,
             mib: mebibytes as u32,
             inodes: inodes as u32,
             most_steps: EXPORTED_STEPS,

@@ -80,9 +80,9 @@ const LAWFUL: [(&str, &str, [u32; 6]); 27] = [
     ),
 ];
 
-/// The numbers of a plan whose volumes have 16 stripes, and directories that are known 4,096 deep.
+/// The numbers of a plan whose volumes have 8 stripes, and directories that are known 4,096 deep.
 fn numbers_of(rt: &impl Abort, plan: &VolumePlan) -> [u32; 6] {
-    assert!(rt; plan.stripes == 16 && plan.most_steps == 4_096);
+    assert!(rt; plan.stripes == 8 && plan.most_steps == 4_096);
     [
         plan.ranges,
         plan.range_blocks,
