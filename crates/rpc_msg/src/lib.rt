@@ -26,7 +26,8 @@ pub use laws::{
 pub use nfs_values::Procedure as Served;
 pub use offer::Offer;
 pub use record::{
-    DecodedCall, Heard, RecordVerdict, Request, Verdict, read_record, read_record_into, read_record_of,
+    DecodedCall, Heard, RecordVerdict, Request, Verdict, read_record, read_record_into,
+    read_record_of,
 };
 pub use reply::{move_reply_record, size_of_reply, write_reply, write_reply_record};
 pub use room::{REFUSAL_ROOM, room_of_reply};

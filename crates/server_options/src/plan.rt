@@ -3,9 +3,7 @@
 ghost use Rattle.std.specs.Prelude.{◌≡◌, ◌≤◌, ◌<◌, ◌*◌, ◌⊎◌};
 ghost use Rattle.nfs_model.specs.volume.Ranges.{IsRangeSize};
 
-use affinity::{
-    INODES, MEBIBYTE, MIB, MOST_INODES, MOST_RANGES, RANGE_BLOCKS, STEPS, STRIPES,
-};
+use affinity::{INODES, MEBIBYTE, MIB, MOST_INODES, MOST_RANGES, RANGE_BLOCKS, STEPS, STRIPES};
 use nfs_values::{BLOCK_BYTES, Ownership};
 
 /// The bytes of a volume for each of its inodes.
