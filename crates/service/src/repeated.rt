@@ -28,7 +28,7 @@ pub(crate) fn told_before<'a>(run: Run, own: &'a LogicalParcel) -> Option<Rememb
 /// have no room for its answer.
 #[inline(never)]
 pub(crate) fn tell_again(run: Run, told: Remembered, volume: VolumeNumber) -> Outcome
-    ensures { outcome_of result ≡ Replied (Success (answer_told volume.0 told)) }
+    ensures { outcome_of result ≡ Replied (Success (answer_told volume.0 told.entry)) }
 {
     count(run.ahead);
     Outcome::Replied(Reply::Success(told.answer(run.call, volume)))

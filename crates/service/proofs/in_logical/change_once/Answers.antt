@@ -1,8 +1,6 @@
-use Rattle.std.proofs.Common.{◌≡◌, ap, ◌∙◌, sym, subst}
-use Rattle.std.specs.Option.{option_map}
+use Rattle.std.proofs.Common.{◌≡◌, ◌∙◌, sym, subst}
 use Rattle.affinity.specs.Layout.{layout_of}
 use Rattle.nfs_model.specs.volume.Logical.{LogicalValue}
-use Rattle.nfs_values.specs.Answer.{answer_of}
 use Rattle.nfs_values.specs.Call.{call_of}
 use Rattle.nfs_values.specs.Caller.{caller_of}
 use Rattle.nfs_values.specs.Handle.{named_of}
@@ -32,7 +30,7 @@ returns-clause-runs c =
     let outcome = outcome_of c.change-outcome.result in
     subst (λ (o : LogicalValue). RunsOn n.volume logical_lens (call_named L n caller moment call) old outcome (record new { own = o }))
     (sym c.remember.ensures)
-    (first-runs L n caller moment call old new outcome (sym (told_before-is))
+    (first-runs L n caller moment call old new outcome (sym c.told_before.ensures ∙ c.in_default.is)
     c.change-outcome.ensures.runs)
 
 pub returns-clause-moved : goal.returns-clause-moved
