@@ -172,6 +172,9 @@ fn guess_place(index: &Sequence<Spot>, hash: u32) -> Guess {
         }
         let at = guess.clamp(low, high - 1);
         let (chunk, here) = index.chunk_at(at);
+        if chunk.len() == size {
+            return guess_in(chunk, 0, hash, guess);
+        }
         let first = at - here;
         let lowest = chunk[0].hash;
         let highest = chunk[chunk.len() - 1].hash;

@@ -17,7 +17,7 @@ ghost use Rattle.std.specs.List.{slice_get, insert, remove};
 ghost use Rattle.directories.specs.sequences.Values.{DifferByAtMost, MayRise};
 ghost use Rattle.directories.specs.sequences.Opened.{IsFirst};
 
-use crate::sequences::chunk::{put, split};
+use crate::sequences::chunk::{copy, put, split};
 use crate::sequences::room::SpareChunk;
 use crate::sequences::tree::{First, Node, Parts, Tree};
 
@@ -50,6 +50,12 @@ pub(crate) fn inserted<T: Copy>(
     if here <= size && size < chunk.items.capacity() {
         put(&mut chunk.items, here, item);
         return (Parts { left, chunk, right }.join(), Some(room));
+    }
+    if room.takes(here, size) {
+        let mut larger = room.chunk();
+        copy(&chunk.items, &mut larger.items, here, item);
+        let chunk = larger;
+        return (Parts { left, chunk, right }.join(), None);
     }
     if here < size {
         let mut upper = room.chunk();

@@ -13,6 +13,17 @@ pub(crate) fn put<T: Copy>(chunk: &mut Vec<T>, here: usize, item: T)
     chunk.insert(here, item).unwrap();
 }
 
+/// Puts the items of a chunk, with one more among them, into an empty one that has room for them.
+pub(crate) fn copy<T: Copy>(chunk: &[T], larger: &mut Vec<T>, here: usize, item: T)
+    requires within { here ≤ length chunk.now }
+    requires empty { vec_len larger.old ≡ 0 }
+    requires room { length chunk.now < vec_capacity larger.old }
+    ensures { larger.new.items ≡ insert chunk.now here item }
+{
+    larger.extend_from_slice(chunk).unwrap();
+    put(larger, here, item);
+}
+
 /// Moves the items of a chunk from a position on into an empty one, which has room for them.
 fn cut<T: Copy>(chunk: &mut Vec<T>, upper: &mut Vec<T>, kept: usize)
     requires within { kept ≤ vec_len chunk.old }

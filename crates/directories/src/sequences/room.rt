@@ -1,6 +1,6 @@
 //! Memory that is taken before a change.
 
-ghost use Rattle.std.specs.Prelude.{◌≡◌, ◌<◌, []};
+ghost use Rattle.std.specs.Prelude.{◌≡◌, ◌<◌, ◌≤◌, [], true};
 ghost use Rattle.std.specs.Vec.{vec_capacity};
 
 use crate::sequences::tree::Node;
@@ -49,10 +49,19 @@ impl<T: Copy> SpareChunk<T> {
         Ok(SpareChunk { chunk })
     }
 
+    /// Whether there is a position among this many items, and room for one more than these.
+    pub(crate) fn takes(&self, here: usize, size: usize) -> bool
+        ensures within { result ≡ true → here ≤ size }
+        ensures room { result ≡ true → size < self.now }
+    {
+        here <= size && size < self.chunk.items.capacity()
+    }
+
     /// The chunk.
     pub(crate) fn chunk(self) -> Box<Node<T>>
         ensures empty { result.value.items.items ≡ [] }
         ensures room { 0 < vec_capacity result.value.items }
+        ensures capacity { vec_capacity result.value.items ≡ self }
     {
         let SpareChunk { chunk } = self;
         chunk

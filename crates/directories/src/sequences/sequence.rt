@@ -27,7 +27,8 @@ use std::alloc::{AllocError, Global};
 use std::marker::Model;
 use std::mem;
 
-/// How many items the first chunk has room for.
+/// How many items the first chunk has room for. Each further one has room for these and half more
+/// than there are, so that few items are all in one chunk.
 const LEAST: usize = 4;
 
 /// How many items a chunk has room for at most.
@@ -142,7 +143,8 @@ impl<T: Copy> Sequence<T> {
                     take_nodes(self.alloc, &mut self.nodes);
                 }
                 let node = self.nodes.pop();
-                SpareChunk::new(self.alloc, size.clamp(LEAST, MOST), node)
+                let fitting = (size + size / 2 + LEAST).min(MOST);
+                SpareChunk::new(self.alloc, fitting, node)
             }
         }
     }
