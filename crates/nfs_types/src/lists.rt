@@ -1,6 +1,7 @@
 //! Lists in results.
 
-ghost use Rattle.std.specs.Prelude.{◌≡◌, ◌+◌, ◌≤◌, ◌<◌, ◌^◌, ◌-◌, ◌++◌, length, map, replicate, take, true};
+ghost use Rattle.std.specs.Prelude.{◌≡◌, ◌+◌, ◌≤◌, ◌<◌, ◌^◌, ◌-◌, ◌++◌, length, map, replicate};
+ghost use Rattle.std.specs.Prelude.{take, true};
 ghost use Rattle.std.specs.Prelude.{vec_len, vec_capacity};
 ghost use Rattle.std.specs.List.{flat_map};
 ghost use Rattle.xdr.specs.Shape.{Chain, Hyper, Word, padded, padding, spelling, word};
