@@ -7,7 +7,7 @@ ghost use Rattle.connections.specs.Cutting.{HasCut};
 
 use crate::backlog::Backlog;
 use affinity::Layout;
-use rpc_msg::Offer;
+use rpc_msg::{BoxedCall, Offer};
 use tcp_front::{RecordSink, Stopped, Stream, take_some};
 
 /// Cuts kept bytes as far as the sink has room.
@@ -17,6 +17,7 @@ pub(crate) fn cut_kept<S: RecordSink>(
     sink: &mut S,
     layout: &Layout,
     offer: Offer,
+    asked: &mut BoxedCall,
 ) -> Option<Stopped>
     requires few { stream.old.records < most_records }
     requires layout { S.layout sink.old ≡ layout_of layout.now }
@@ -24,7 +25,7 @@ pub(crate) fn cut_kept<S: RecordSink>(
         kept.old result stream.new sink.new kept.new }
     ensures layout { S.layout sink.new ≡ S.layout sink.old }
 {
-    let (taken, stopped) = take_some(stream, sink, layout, offer, kept.as_slice());
+    let (taken, stopped) = take_some(stream, sink, layout, offer, asked, kept.as_slice());
     kept.forget(taken);
     stopped
 }
@@ -37,6 +38,7 @@ pub(crate) fn cut_new<S: RecordSink>(
     sink: &mut S,
     layout: &Layout,
     offer: Offer,
+    asked: &mut BoxedCall,
     bytes: &[u8],
 ) -> Option<Stopped>
     requires few { stream.old.records < most_records }
@@ -46,7 +48,7 @@ pub(crate) fn cut_new<S: RecordSink>(
         bytes.now result stream.new sink.new kept.new }
     ensures layout { S.layout sink.new ≡ S.layout sink.old }
 {
-    let (taken, stopped) = take_some(stream, sink, layout, offer, bytes);
+    let (taken, stopped) = take_some(stream, sink, layout, offer, asked, bytes);
     if stopped.is_some() {
         return stopped;
     }

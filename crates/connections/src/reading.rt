@@ -8,7 +8,7 @@ use crate::cutting::{cut_kept, cut_new};
 use crate::device::Device;
 use crate::told::Told;
 use affinity::Layout;
-use rpc_msg::Offer;
+use rpc_msg::{BoxedCall, Offer};
 use tcp_front::RecordSink;
 
 /// What a read of a connection came to.
@@ -40,6 +40,7 @@ impl<D: Device> Connection<D> {
         sink: &mut S,
         layout: &Layout,
         offer: Offer,
+        asked: &mut BoxedCall,
         block: &mut [u8],
     ) -> Came
         requires some { 0 < length block.old }
@@ -55,7 +56,7 @@ impl<D: Device> Connection<D> {
             return Came::Full;
         }
         if !self.kept.is_empty() {
-            self.stopped = cut_kept(&mut self.stream, &mut self.kept, sink, layout, offer);
+            self.stopped = cut_kept(&mut self.stream, &mut self.kept, sink, layout, offer, asked);
             return Came::Cut;
         }
         match self.device.read_once(block) {
@@ -67,6 +68,7 @@ impl<D: Device> Connection<D> {
                     sink,
                     layout,
                     offer,
+                    asked,
                     &block[..size],
                 );
                 Came::Read(size)

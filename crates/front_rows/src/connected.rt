@@ -13,7 +13,7 @@ use crate::texts::{
 use affinity::Layout;
 use connections::{Came, Connection, Sent};
 use nfs_values::{ConnectionNumber, PeerAddress, Standing};
-use rpc_msg::Offer;
+use rpc_msg::{BoxedCall, Offer};
 use std::mem;
 use std::process::Abort;
 use tcp_front::Peer;
@@ -85,9 +85,10 @@ fn read_all(
     requires { layout_of sink.old.gathered.layout ≡ layout_of layout.now }
 {
     let mut block = vec![in rt.alloc(); 0; 64].expect(rt, "no memory");
+    let mut asked = BoxedCall::blank(rt.alloc()).expect(rt, "no memory");
     let mut last = Came::Blocked;
     for _ in 0..MANY {
-        last = connection.read(sink, layout, Offer::basic(), &mut block);
+        last = connection.read(sink, layout, Offer::basic(), &mut asked, &mut block);
         match last {
             Came::End | Came::Failed | Came::Stopped => break,
             Came::Full => sink.empty(places),

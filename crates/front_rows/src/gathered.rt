@@ -7,10 +7,9 @@ ghost use Rattle.front_rows.specs.Gathering.{HasGathered, gathered_none, gathere
 use affinity::{CallNode, Layout};
 use nfs_values::{Call, ConnectionNumber, Reply};
 use outboxes::Outboxes;
-use rpc_msg::DecodedCall;
+use rpc_msg::{BoxedCall, DecodedCall};
 use scheduler::{Message, Origin};
 use std::alloc::{AllocError, Global};
-use std::mem;
 use tcp_front::RecordSink;
 
 /// The calls that came, and the replies, each in the outbox of its connection.
@@ -49,15 +48,16 @@ impl RecordSink for Gathered {
     fn admit(
         &mut self,
         origin: Origin,
-        asked: &mut DecodedCall,
+        asked: &mut BoxedCall,
         affinity: CallNode,
         reply_bound: usize,
     ) -> Result<(), AllocError> {
+        let DecodedCall { call, caller } = asked.take();
         Ok(
             self.calls.push(Message {
                 origin,
-                call: mem::replace(&mut asked.call, Call::Null),
-                caller: asked.caller,
+                call,
+                caller,
                 affinity,
                 room: reply_bound,
             })?,

@@ -7,7 +7,7 @@ ghost use Rattle.front_rows.specs.Gathering.{HasGathered, gathered_none, gathere
 use crate::gathered::Gathered;
 use affinity::CallNode;
 use nfs_values::{ConnectionNumber, Reply};
-use rpc_msg::DecodedCall;
+use rpc_msg::BoxedCall;
 use scheduler::Origin;
 use std::alloc::AllocError;
 use tcp_front::RecordSink;
@@ -53,7 +53,7 @@ impl RecordSink for Placed {
     fn admit(
         &mut self,
         origin: Origin,
-        asked: &mut DecodedCall,
+        asked: &mut BoxedCall,
         affinity: CallNode,
         reply_bound: usize,
     ) -> Result<(), AllocError> {

@@ -7,8 +7,8 @@ use Rattle.nfs_values.proofs.verifier.Verifier.TheSendSync as verifier
 use Rattle.parcels.proofs.family.Parcel.TheSendSync as parcel
 use Rattle.filer_state.proofs.range.RangeParcel.TheSendSync as range
 use Rattle.filer_state.proofs.stripe.StripeParcel.TheSendSync as stripe
-use Rattle.service.proofs.job.ServedCall.TheSendSync as served
-use Rattle.service.specs.contracts.job.ServedCall as ServedCall
+use Rattle.granted_calls.proofs.entered_call.EnteredCall.TheSendSync as entered
+use Rattle.granted_calls.specs.contracts.entered_call.EnteredCall as EnteredCall
 use Rattle.granted_calls.proofs.shared_waiting.pass.SharedWaiting.TheSendSync as waiting
 use Rattle.granted_calls.proofs.moments.Moments.TheSendSync as moments
 use Rattle.granted_calls.specs.contracts.envelope.Envelope as Envelope
@@ -20,17 +20,17 @@ use Rattle.granted_calls.proofs.crossings.Structs.{struct-send}
 use Rattle.granted_calls.proofs.crossings.Outboxes.{room-send, outboxes-send}
 use Rattle.granted_calls.proofs.crossings.Parcels.{logical-parcel-send}
 
-served-send : IsSend ServedCall.the_row
-served-send = search (served.the_send, sendable) depth 20
+entered-send : IsSend EnteredCall.the_row
+entered-send = search (entered.the_send, sendable) depth 20
 
 envelope-inside-send : IsSend EnvelopeInside.the_row
-envelope-inside-send = struct-send EnvelopeInside.the_type (Box-send ServedCall.the_row served-send, (room-send, tt))
+envelope-inside-send = struct-send EnvelopeInside.the_type (Box-send EnteredCall.the_row entered-send, (room-send, tt))
 
 pub envelope-send : IsSend Envelope.the_row
 envelope-send = view_send EnvelopeInside.the_row _ _ _ _ envelope-inside-send
 
 pub spent-send : IsSend Spent.the_row
-spent-send = declared_send Spent.the_type (Box-send ServedCall.the_row served-send, tt)
+spent-send = declared_send Spent.the_type (Box-send EnteredCall.the_row entered-send, tt)
 
 pub filer-send : IsSend Filer.the_row
 filer-send = declared_send Filer.the_type (

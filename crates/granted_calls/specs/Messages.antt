@@ -1,8 +1,11 @@
 -- Messages to workers.
-use Rattle.std.specs.Prelude.{◌≤◌, ℕ, length}
+use Rattle.std.specs.Prelude.{◌≤◌, ℕ, Bool, length}
 use Rattle.nfs_model.specs.Tree as trees
 use Rattle.nfs_values.specs.Call.{call_of}
 use Rattle.nfs_values.specs.declared.call.Call.{Call}
+use Rattle.nfs_values.specs.declared.moment.Moment.{Moment}
+use Rattle.nfs_values.specs.declared.number.ConnectionNumber.{ConnectionNumber}
+use Rattle.rpc_msg.specs.declared.record.DecodedCall.{DecodedCall}
 use Rattle.affinity.specs.declared.affinity.CallNode.{CallNode}
 use Rattle.affinity.specs.declared.layout.Layout.{Layout}
 use Rattle.affinity.specs.Affinity.{call_node}
@@ -16,6 +19,19 @@ use Rattle.scheduler.specs.declared.message.Message as scheduler
 -- a call that waits for a worker, with the room of its reply
 abbrev pub Message : Type 0
 Message = scheduler.Message Call
+
+-- a call of a record, as its entry has it
+abbrev pub served_as : ConnectionNumber → ℕ → ℕ → DecodedCall → CallNode → Moment → Bool → ServedCall
+served_as connection number xid asked affinity moment starved = record {
+  connection = connection;
+  number = number;
+  xid = xid;
+  call = asked.call;
+  caller = asked.caller;
+  affinity = affinity;
+  moment = moment;
+  starved = starved;
+}
 
 -- the message of a call, with this room for its reply
 abbrev pub message_of_call : ServedCall → ℕ → Message

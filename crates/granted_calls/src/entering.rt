@@ -1,37 +1,26 @@
 //! Entries that are to be made, and the answers that follow.
 
-ghost use Rattle.std.specs.Prelude.{◌≡◌, ℕ};
+ghost use Rattle.std.specs.Prelude.{◌≡◌};
 ghost use Rattle.nfs_values.specs.Reply.{reply_of};
 ghost use Rattle.outboxes.specs.Boxes.{addressed};
 ghost use Rattle.outboxes.specs.Messages as replies;
 ghost use Rattle.granted_calls.specs.Links.{HasRoom, IsEntryFor};
-ghost use Rattle.granted_calls.specs.Messages.{message_of_call};
 ghost use Rattle.granted_calls.specs.Telling.{answer_told};
-ghost use Rattle.granted_calls.specs.Served.{served_of_message};
 
 use crate::answer::Answer;
+use crate::entered_call::EnteredCall;
 use crate::envelope::Envelope;
 use crate::spent::Spent;
 use nfs_values::{Moment, Reply};
 use outboxes::Room;
 use rpc_msg::{HandleForm, tell};
 use scheduler::Origin;
-use service::ServedCall;
 
 /// The call of an entry, and what its answer needs.
 pub(crate) struct Entry {
     pub(crate) origin: Origin,
-    pub(crate) served: Box<ServedCall>,
+    pub(crate) served: Box<EnteredCall>,
     pub(crate) room: Room,
-}
-
-/// When an entry's call ran, and whether memory ran out.
-fn stamp(served: &mut ServedCall, moment: Moment, starved: bool)
-    ensures { (room : ℕ)
-        → served.new ≡ served_of_message (message_of_call served.old room) moment starved }
-{
-    served.moment = moment;
-    served.starved = starved;
 }
 
 /// The entry of a message's call.
@@ -40,7 +29,7 @@ pub(crate) fn enter(message: Envelope, moment: Moment, starved: bool) -> Entry
 {
     let origin = message.origin();
     let Envelope { mut served, room } = message;
-    stamp(&mut *served, moment, starved);
+    served.stamp(moment, starved);
     Entry {
         origin,
         served,

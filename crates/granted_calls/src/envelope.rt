@@ -1,27 +1,27 @@
 //! Messages in memory of their own.
 
-ghost use Rattle.std.specs.Prelude.{◌≡◌, IfOk};
+ghost use Rattle.std.specs.Prelude.{◌≡◌, ℕ, IfOk};
 ghost use Rattle.affinity.specs.Affinity.{call_affinity};
 ghost use Rattle.scheduler.specs.Messages.{message_at};
-ghost use Rattle.granted_calls.specs.Messages.{readdressed};
+ghost use Rattle.granted_calls.specs.Messages.{message_of_call, readdressed};
 
+use crate::entered_call::EnteredCall;
 use crate::shared_waiting::Fitting;
 use crate::spent::Spent;
 use affinity::{Affinity, CallNode, Layout};
-use nfs_values::{Call, Caller, Moment};
+use nfs_values::{Call, Caller};
 use outboxes::Room;
-use rpc_msg::DecodedCall;
+use rpc_msg::BoxedCall;
 use scheduler::Origin;
-use service::ServedCall;
 use std::alloc::{AllocError, Global};
 use std::marker::Model;
 use std::mem;
 
-/// A message. What it asks stands in memory of its own, as the entry of its call will have it: it
-/// is never moved from there, and what travels through queues and turns is small.
+/// A message. What it asks stands where it was read, as the entry of its call will have it: it is
+/// never moved from there, and what travels through queues and turns is small.
 #[derive(Drop)]
 pub struct Envelope {
-    pub(crate) served: Box<ServedCall>,
+    pub(crate) served: Box<EnteredCall>,
     pub(crate) room: Room,
 }
 
@@ -39,43 +39,47 @@ impl Fitting<Layout> for Envelope {
     ghost fits = { Fits };
 }
 
+/// A call that was read, with the memory that it was read into, in whose place new memory comes.
+#[inline(never)] // else what is moved takes room in others
+fn entered_anew(
+    alloc: Global,
+    origin: Origin,
+    asked: &mut BoxedCall,
+    affinity: CallNode,
+) -> Result<Box<EnteredCall>, AllocError>
+    ensures { IfOk result (λ served. (room : ℕ) → message_of_call served.value room
+        ≡ message_at origin asked.old.call asked.old.caller affinity room) }
+{
+    let fresh = BoxedCall::blank(alloc)?;
+    let read = mem::replace(asked, fresh);
+    match Box::new(alloc, EnteredCall::new(origin, read, affinity)) {
+        Ok(served) => Ok(served),
+        Err(refused) => {
+            drop(refused);
+            Err(AllocError)
+        }
+    }
+}
+
 impl Envelope {
-    /// A message in memory of its own, or in that of a call that was finished, with room for its
-    /// reply. The call that was read is moved to there.
+    /// A message with room for its reply. It takes the memory that its call was read into, in whose
+    /// place that of a call that was finished comes, or new memory.
     pub fn new(
         alloc: Global,
         spent: Option<Spent>,
         origin: Origin,
-        asked: &mut DecodedCall,
+        asked: &mut BoxedCall,
         affinity: CallNode,
         room: Room,
     ) -> Result<Envelope, AllocError>
         ensures { IfOk result (λ envelope. envelope
             ≡ message_at origin asked.old.call asked.old.caller affinity room) }
     {
-        let served = ServedCall {
-            connection: origin.connection,
-            number: origin.number,
-            xid: origin.xid,
-            call: mem::replace(&mut asked.call, Call::Null),
-            caller: asked.caller,
-            affinity,
-            moment: Moment::START,
-            starved: false,
+        let served = match spent {
+            Some(spent) => spent.with(origin, asked, affinity),
+            None => entered_anew(alloc, origin, asked, affinity)?,
         };
-        match spent {
-            Some(spent) => Ok(Envelope {
-                served: spent.with(served),
-                room,
-            }),
-            None => match Box::new(alloc, served) {
-                Ok(served) => Ok(Envelope { served, room }),
-                Err(refused) => {
-                    drop(refused);
-                    Err(AllocError)
-                }
-            },
-        }
+        Ok(Envelope { served, room })
     }
 
     /// The record that its call came in.
@@ -109,8 +113,8 @@ impl Envelope {
         ensures call { result.0.now ≡ self.now.call }
         ensures caller { result.1.now ≡ self.now.caller }
     {
-        let served = &*self.served;
-        (&served.call, &served.caller)
+        let asked = self.served.asked.get();
+        (&asked.call, &asked.caller)
     }
 
     /// It tries another node.

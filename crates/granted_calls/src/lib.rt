@@ -7,6 +7,7 @@ mod answer;
 mod chained;
 mod chaining;
 pub mod crossings;
+mod entered_call;
 mod entering;
 mod envelope;
 mod granted;

@@ -19,6 +19,7 @@ ghost use Rattle.granted_calls.specs.Telling.{TookTold};
 ghost use Rattle.granted_calls.specs.Filers.{layout_in, layout_known, verifier_in};
 
 use crate::chained::{AnswerSink, Hint};
+use crate::entered_call::EnteredCall;
 use crate::entering::{Entry, answered, enter};
 use crate::envelope::Envelope;
 use crate::granted::{Ended, place_of, run_on};
@@ -32,7 +33,7 @@ use filer_state::Files;
 use nfs_values::{Moment, Reply};
 use parcels::{Node, Parcel};
 use rpc_msg::{HandleForm, replies_fit, servers_are_roomy};
-use service::{ServedCall, Service};
+use service::Service;
 use std::sync::Wait;
 
 /// What came of a message under a grant that is still open.
@@ -116,7 +117,7 @@ fn go_on_by<N: Node<Parcel<Files>>>(
         (job_in entry.now) (Replied told.now) (view seat.new) }
     ensures stayed { result ≡ false → IsLast (view seat.old) (view seat.new) }
 {
-    match go_on_node::<Service, N, ServedCall, Reply>(
+    match go_on_node::<Service, N, EnteredCall, Reply>(
         &filer.depot,
         seat,
         grant,
@@ -238,7 +239,7 @@ pub(crate) fn end_on<N: Node<Parcel<Files>>, G: Gate, S: AnswerSink>(
             Some(message)
         }
         Tried::Entered(entry, next) => {
-            finish_node::<Service, N, ServedCall, Reply>(
+            finish_node::<Service, N, EnteredCall, Reply>(
                 &filer.depot,
                 seat,
                 grant,

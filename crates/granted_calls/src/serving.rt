@@ -20,6 +20,7 @@ ghost use Rattle.granted_calls.specs.Served.{filer_behaviour, job_of_message, Ha
 ghost use Rattle.granted_calls.specs.Filers.{layout_in, verifier_in, IsReady};
 
 use crate::answer::Answer;
+use crate::entered_call::EnteredCall;
 use crate::entering::{answered, enter};
 use crate::envelope::Envelope;
 use crate::granted::{Ended, Ran, place_of, run};
@@ -34,7 +35,7 @@ use filer_state::Files;
 use nfs_values::{Moment, Reply};
 use parcels::{AggregateNode, LogicalNode, Node, Parcel, SerialNode, StripeNode, VolumeNode};
 use rpc_msg::{HandleForm, replies_fit, servers_are_roomy};
-use service::{ServedCall, Service};
+use service::Service;
 
 /// Ends a message's call by its entry, and answers it.
 fn answer<N: Node<Parcel<Files>>, G: Gate>(
@@ -64,7 +65,7 @@ fn answer<N: Node<Parcel<Files>>, G: Gate>(
         (replies.message message.origin.xid (reply_of told.old)) }
 {
     let entry = enter(message, moment, starved);
-    finish_node::<Service, N, ServedCall, Reply>(&filer.depot, seat, grant, &entry.served, told);
+    finish_node::<Service, N, EnteredCall, Reply>(&filer.depot, seat, grant, &entry.served, told);
     gate.finish(told);
     answered(entry, told, HandleForm::Plain)
 }

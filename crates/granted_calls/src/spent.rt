@@ -1,33 +1,55 @@
 //! The memory of calls that are done with, for those to come.
 
-ghost use Rattle.std.specs.Prelude.{◌≡◌};
+ghost use Rattle.std.specs.Prelude.{◌≡◌, ℕ};
+ghost use Rattle.scheduler.specs.Messages.{message_at};
+ghost use Rattle.granted_calls.specs.Messages.{message_of_call};
 
+use crate::entered_call::EnteredCall;
+use affinity::CallNode;
 use nfs_values::Call;
-use service::ServedCall;
-use std::mem;
+use rpc_msg::BoxedCall;
+use scheduler::Origin;
 
-/// The memory of a call that was finished. Nothing that it asked has memory of its own any more.
+/// How many bytes of a WRITE's memory are kept at most.
+const MOST_KEPT: usize = 8_192;
+
+/// The memory of a call that was finished. Of what it asked, the bytes of a small WRITE alone have
+/// memory of their own, for those of another.
 #[derive(Drop)]
 pub struct Spent {
-    served: Box<ServedCall>,
+    served: Box<EnteredCall>,
+}
+
+/// Whether a call has memory of its own that isn't kept.
+fn is_large(call: &Call) -> bool {
+    match call {
+        Call::Write { bytes, .. } => bytes.capacity() > MOST_KEPT,
+        _ => call.has_memory(),
+    }
 }
 
 impl Spent {
     /// What is left of an entry's call.
-    pub(crate) fn of(mut served: Box<ServedCall>) -> Spent {
-        if served.call.has_memory() {
-            served.call = Call::Null;
+    pub(crate) fn of(mut served: Box<EnteredCall>) -> Spent {
+        if is_large(&served.asked.get().call) {
+            served.asked.clear();
         }
         Spent { served }
     }
 
-    /// A call in this memory.
-    pub(crate) fn with(self, call: ServedCall) -> Box<ServedCall>
-        ensures { result.value ≡ call }
+    /// A call that was read, with the memory that it was read into, beside which this is used again:
+    /// what was read into before comes to where the call was read.
+    pub(crate) fn with(
+        self,
+        origin: Origin,
+        asked: &mut BoxedCall,
+        affinity: CallNode,
+    ) -> Box<EnteredCall>
+        ensures { (room : ℕ) → message_of_call result.value room
+            ≡ message_at origin asked.old.call asked.old.caller affinity room }
     {
         let Spent { mut served } = self;
-        // What was there has no memory of its own, and so it isn't moved to be dropped.
-        mem::forget(mem::replace(&mut *served, call));
+        served.put(origin, asked, affinity);
         served
     }
 }

@@ -10,6 +10,7 @@ use crate::texts::{GETATTR, NULL, bytes_of};
 use connections::{Came, Sent};
 use lanes::LaneParts;
 use nfs_values::{PeerAddress, Standing, VolumeNumber};
+use rpc_msg::BoxedCall;
 use std::process::Abort;
 use std::sync::Wait;
 use tcp_front::Peer;
@@ -34,8 +35,9 @@ pub(crate) fn ask<R: Wait>(
     let opened = lane.open(device(rt, records, takes), peer);
     assert!(rt; opened.ok() == Some(key));
     let mut block = [0; 512];
-    assert!(rt; matches!(lane.read(key, &mut block), Came::Read(_)));
-    assert!(rt; lane.read(key, &mut block) == Came::End);
+    let mut asked = BoxedCall::blank(rt.alloc()).expect(rt, "no memory");
+    assert!(rt; matches!(lane.read(key, &mut asked, &mut block), Came::Read(_)));
+    assert!(rt; lane.read(key, &mut asked, &mut block) == Came::End);
     key
 }
 

@@ -13,7 +13,7 @@ use connections::Due;
 use granted_calls::shared_waiting::{Pass, SharedWaiting};
 use granted_calls::{Envelope, Filer};
 use nfs_values::{Call, ConnectionNumber, Reply};
-use rpc_msg::{DecodedCall, HandleForm, tell};
+use rpc_msg::{BoxedCall, HandleForm, tell};
 use scheduler::Origin;
 use service::Ahead;
 use statistics::{ReplyCounts, ReplyKind};
@@ -96,12 +96,13 @@ impl<R: Wait> RecordSink for Intake<R> {
     fn admit(
         &mut self,
         origin: Origin,
-        asked: &mut DecodedCall,
+        asked: &mut BoxedCall,
         affinity: CallNode,
         reply_bound: usize,
     ) -> Result<(), AllocError> {
-        let leaving = u64::from(may_leave_blocks(affinity, &asked.call));
-        self.ahead.note(&asked.call);
+        let call = &asked.get().call;
+        let leaving = u64::from(may_leave_blocks(affinity, call));
+        self.ahead.note(call);
         let message = self
             .outboxes
             .message(self.alloc, origin, asked, affinity, reply_bound)?;

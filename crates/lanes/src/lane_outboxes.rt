@@ -10,7 +10,7 @@ use connections::{Connection, Device, Sent, close_under, open_under, write_under
 use granted_calls::{Answer, AnswerSink, Envelope, Spent};
 use nfs_values::{ConnectionNumber, Reply};
 use outboxes::Outboxes;
-use rpc_msg::DecodedCall;
+use rpc_msg::BoxedCall;
 use scheduler::Origin;
 use slab::Slab;
 use std::alloc::{AllocError, Global};
@@ -61,13 +61,14 @@ impl LaneOutboxes {
         }
     }
 
-    /// The message of a call that was read, which is moved from there, in memory that was used
-    /// before where there is some, with room for a reply of at most so many bytes.
+    /// The message of a call that was read, with the memory that it was read into, in whose place
+    /// other memory comes, which was used before where there is some; with room for a reply of at
+    /// most so many bytes.
     pub(crate) fn message(
         &mut self,
         alloc: Global,
         origin: Origin,
-        asked: &mut DecodedCall,
+        asked: &mut BoxedCall,
         affinity: CallNode,
         reply_bound: usize,
     ) -> Result<Envelope, AllocError>

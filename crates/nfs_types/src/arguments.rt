@@ -1,6 +1,7 @@
 //! Arguments of calls.
 
-ghost use Rattle.std.specs.Prelude.{◌≡◌, ◌≢◌, ◌≤◌, true, false, Err, IfOk, IfErr, length, drop};
+ghost use Rattle.std.specs.Prelude.{◌≡◌, ◌≢◌, ◌≤◌, [], true, false, Err, IfOk, IfErr, OnOk};
+ghost use Rattle.std.specs.Prelude.{length, drop};
 ghost use Rattle.nfs_types.specs.declared.bad.Bad.TheVariants as bads;
 ghost use Rattle.xdr.specs.declared.fault.Fault.TheVariants as faults;
 ghost use Rattle.xdr.specs.Shape.{Void};
@@ -32,7 +33,7 @@ use nfs_values::{
     BytesToWrite, Call, Cookie, CreateMode, FileHandle, Moment, MountCall, Name, Procedure,
     SetAttributes, Target, Verifier, VolumeNumber, call_of_path,
 };
-use std::alloc::Global;
+use std::alloc::{AllocError, Global};
 use xdr::Fault;
 
 /// A directory and a name, which is copied.
@@ -127,7 +128,19 @@ fn read(bytes: &[u8], call: &mut Call) -> Result<(), Bad>
     Ok(())
 }
 
-/// WRITE (RFC 1813 section 3.3.7).
+/// Puts bytes into memory that has none, or into more where they have no room in it.
+fn put_bytes(alloc: Global, memory: &mut Vec<u8>, bytes: &[u8]) -> Result<(), AllocError>
+    requires { memory.old.items ≡ [] }
+    ensures { OnOk result (memory.new.items ≡ bytes.now) }
+{
+    if bytes.len() <= memory.capacity() {
+        return memory.extend_from_slice(bytes);
+    }
+    *memory = Vec::from_slice(alloc, bytes)?;
+    Ok(())
+}
+
+/// WRITE (RFC 1813 section 3.3.7), in the memory of a WRITE that was there before.
 fn write(alloc: Global, bytes: &[u8], call: &mut Call) -> Result<(), Bad>
     ensures { Makes call_of true (put_in result call.new)
         (asked_by writing_shape write_call bytes.now) }
@@ -135,11 +148,13 @@ fn write(alloc: Global, bytes: &[u8], call: &mut Call) -> Result<(), Bad>
     let (handle, (offset, (count, (_stable, written)))) = decode_all::<
         (FileHandle, (u64, (u32, (StableHow, &[u8])))),
     >(bytes)?;
+    let mut memory = call.take_memory(alloc);
+    put_bytes(alloc, &mut memory, written)?;
     *call = Call::Write {
         handle,
         offset,
         count,
-        bytes: BytesToWrite::all(Vec::from_slice(alloc, written)?),
+        bytes: BytesToWrite::all(memory),
     };
     Ok(())
 }

@@ -62,6 +62,23 @@ impl BytesToWrite {
     {
         &self.record[self.from..][..self.size]
     }
+
+    /// How many bytes its memory has room for. Nothing is promised of it.
+    pub fn capacity(&self) -> usize {
+        self.record.capacity()
+    }
+
+    /// Takes its memory, with nothing in it, and leaves no bytes here.
+    pub fn take_memory(&mut self, alloc: Global) -> Vec<u8>
+        ensures taken { result.items ≡ [] }
+        ensures none { self.new ≡ [] }
+    {
+        self.from = 0;
+        self.size = 0;
+        let mut memory = mem::replace(&mut self.record, Vec::new(alloc));
+        memory.clear();
+        memory
+    }
 }
 
 /// How many bytes stand before the bytes of a READ in the record of its reply (RFC 1813 section

@@ -1,6 +1,6 @@
 //! What calls ask.
 
-ghost use Rattle.std.specs.Prelude.{◌≡◌};
+ghost use Rattle.std.specs.Prelude.{◌≡◌, []};
 ghost use Rattle.nfs_model.specs.Route.{route};
 ghost use Rattle.nfs_values.specs.Call.{call_of, call_with};
 ghost use Rattle.nfs_values.specs.Route.{route_of};
@@ -16,6 +16,7 @@ use crate::route::Route;
 use crate::set::{CreateMode, SetAttributes};
 use crate::target::Target;
 use crate::verifier::Verifier;
+use std::alloc::Global;
 
 /// A call with its arguments (RFC 1813 section 3.3). A handle is the bytes that came, good or bad.
 /// How stable a WRITE is to be, and which bytes a COMMIT is of, isn't kept, since every WRITE is
@@ -350,6 +351,17 @@ impl Call {
             Call::Stop => false,
             Call::Mount(_) => true,
             Call::MountBelow { root: _, path: _ } => true,
+        }
+    }
+
+    /// Takes the memory of the bytes that a WRITE writes, with nothing in it, for another call; other
+    /// calls give none. What is left is to be written over.
+    pub fn take_memory(&mut self, alloc: Global) -> Vec<u8>
+        ensures { result.items ≡ [] }
+    {
+        match self {
+            Call::Write { bytes, .. } => bytes.take_memory(alloc),
+            _ => Vec::new(alloc),
         }
     }
 

@@ -11,7 +11,7 @@ use granted_calls::shared_waiting::Pass;
 use granted_calls::{Envelope, Filer};
 use nfs_values::{Caller, ConnectionNumber};
 use outboxes::Room;
-use rpc_msg::{DecodedCall, room_of_reply};
+use rpc_msg::{BoxedCall, DecodedCall, room_of_reply};
 use scheduler::Origin;
 use std::process::Abort;
 use std::sync::Wait;
@@ -31,7 +31,7 @@ fn message_of(
     ensures { IsPlaced (layout_in filer.now) result }
 {
     let layout = filer.depot().layout();
-    let mut asked = DecodedCall {
+    let asked = DecodedCall {
         call: call_of(rt, ask),
         caller: Caller::NOBODY,
     };
@@ -43,6 +43,7 @@ fn message_of(
         xid,
     };
     let room = Room::new(rt.alloc(), reply_bound).expect(rt, "no memory");
+    let mut asked = BoxedCall::new(rt.alloc(), asked).expect(rt, "no memory");
     Envelope::new(rt.alloc(), None, origin, &mut asked, affinity, room).expect(rt, "no memory")
 }
 

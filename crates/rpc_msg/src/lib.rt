@@ -1,6 +1,7 @@
 //! Heads of calls and whole replies of RPC (RFC 5531) as bytes.
 #![tactic(auto)]
 
+mod boxed_call;
 mod credential;
 mod fault;
 mod handle_form;
@@ -14,6 +15,7 @@ mod reply;
 mod room;
 mod stop;
 
+pub use boxed_call::BoxedCall;
 pub use fault::RecordFault;
 pub use handle_form::HandleForm;
 pub use handles::tell;

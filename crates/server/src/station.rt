@@ -11,6 +11,7 @@ use crate::mailbox::{Arrival, Mailbox};
 use crate::pace::Pace;
 use connections::BUFFER_BYTES;
 use mio::{Events, Poll};
+use rpc_msg::BoxedCall;
 use std::alloc::{AllocError, Global};
 use std::net::Net;
 use std::sync::Arc;
@@ -25,15 +26,18 @@ const EVENTS: usize = 128;
 /// What a lane reads into, and what it joins replies in.
 #[derive(Drop)]
 pub(crate) struct Buffers {
+    /// Memory for the call that is read.
+    pub(crate) asked: BoxedCall,
     pub(crate) block: Vec<u8>,
     pub(crate) buffer: Vec<u8>,
     ghost some: { 0 < length block.items },
 }
 
 impl Buffers {
-    /// 512 KiB, and 256 KiB.
+    /// Blocks of 512 KiB and of 256 KiB.
     fn new(alloc: Global) -> Result<Buffers, AllocError> {
         Ok(Buffers {
+            asked: BoxedCall::blank(alloc)?,
             block: vec![in alloc; 0; BLOCK_BYTES]?,
             buffer: Vec::with_capacity(alloc, BUFFER_BYTES)?,
         })

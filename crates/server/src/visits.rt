@@ -17,6 +17,7 @@ use connections::{Came, Connection, Flags, Sent};
 use lanes::Lane;
 use mio::net::TcpStream;
 use mio::{Interest, Registry, Token};
+use rpc_msg::BoxedCall;
 use std::net;
 use std::sync::Wait;
 use tcp_front::Peer;
@@ -142,12 +143,18 @@ fn replies_to<R>(lane: &Lane<Socket, R>, key: usize) -> usize {
 }
 
 /// Reads a connection once into at most so many bytes of a block, or cuts what is kept of it.
-fn read_into<R: Wait>(lane: &mut Lane<Socket, R>, key: usize, block: &mut [u8], most: usize) -> Came
+fn read_into<R: Wait>(
+    lane: &mut Lane<Socket, R>,
+    key: usize,
+    asked: &mut BoxedCall,
+    block: &mut [u8],
+    most: usize,
+) -> Came
     requires { 0 < length block.old }
     ensures { Stays lane.old lane.new }
 {
     let most = most.max(1).min(block.len());
-    lane.read(key, &mut block[..most])
+    lane.read(key, asked, &mut block[..most])
 }
 
 /// Reads a connection once, or cuts what is kept of it: by as many bytes as are likely to bring no
@@ -163,7 +170,7 @@ fn read<R: Wait>(
 {
     let (before, usual) = (replies_to(lane, key), guests.at(key).block);
     let most = share.block(usual).max(1).min(buffers.block.len());
-    let came = read_into(lane, key, &mut buffers.block, most);
+    let came = read_into(lane, key, &mut buffers.asked, &mut buffers.block, most);
     match came {
         Came::Failed => guests.fail(key),
         Came::Read(size) => {

@@ -12,7 +12,7 @@ ghost use Rattle.rpc_msg.specs.Seen.{request_at};
 ghost use Rattle.rpc_msg.specs.declared.record.Request.TheVariants.{Refused, Undecoded};
 ghost use Rattle.rpc_msg.specs.declared.record.Verdict.TheVariants.{Called};
 ghost use Rattle.tcp_front.specs.Arrivals.{Answered};
-ghost use Rattle.tcp_front.specs.Peers.{caller_at, may_ask, may_grow, may_stop, sender_of};
+ghost use Rattle.tcp_front.specs.Peers.{may_ask, may_grow, may_stop, sender_of};
 ghost use Rattle.tcp_front.specs.Steps.{given_of};
 
 use crate::peer::Peer;
@@ -20,10 +20,9 @@ use crate::sink::RecordSink;
 use affinity::Layout;
 use engine_feed::{admission_of, reply_at_once};
 use nfs_values::{AuthFault, Call, Caller, Refusal};
-use rpc_msg::{DecodedCall, Request, Verdict};
+use rpc_msg::{BoxedCall, DecodedCall, Request, Verdict};
 use scheduler::Origin;
 use std::alloc::{AllocError, Global};
-use std::mem;
 
 /// Whether a peer may stop the server, for a caller as its record bears it.
 fn may_stop(peer: Peer, caller: &Caller) -> bool
@@ -55,17 +54,6 @@ fn may_ask(peer: Peer, call: &Call, caller: &Caller) -> bool
         Call::Grow { .. } => may_grow(peer, caller),
         _ => true,
     }
-}
-
-/// Who makes a call of a peer.
-fn caller_at(peer: Peer, caller: Caller) -> Caller
-    ensures { caller_of result ≡ caller_at (sender_of peer) (caller_of caller) }
-{
-    let caller = Caller {
-        peer: peer.address,
-        ..caller
-    };
-    peer.standing.caller(caller)
 }
 
 /// Answers a record that has no home. It stands apart, so that others have no room for its reply.
@@ -129,7 +117,7 @@ fn answer_read<S: RecordSink>(
     sink: &mut S,
     layout: &Layout,
     origin: Origin,
-    asked: &mut DecodedCall,
+    asked: &mut BoxedCall,
 ) -> Result<(), AllocError>
     ensures ok { OnOk result (S.came sink.old (Answered (addressed origin.connection.0
         (message origin.xid (reply_at_once (layout_of layout.now)
@@ -137,11 +125,8 @@ fn answer_read<S: RecordSink>(
     ensures err { OnErr result (S.came sink.old [] sink.new) }
     ensures layout { S.layout sink.new ≡ S.layout sink.old }
 {
-    let request = Request::Call {
-        call: mem::replace(&mut asked.call, Call::Null),
-        caller: asked.caller,
-    };
-    answer_now(alloc, sink, layout, origin, &request)
+    let DecodedCall { call, caller } = asked.take();
+    answer_now(alloc, sink, layout, origin, &Request::Call { call, caller })
 }
 
 /// Gives on what a record of a peer asks: a call with a home to be run, and else the reply. A call
@@ -152,7 +137,7 @@ pub(crate) fn give<S: RecordSink>(
     layout: &Layout,
     peer: Peer,
     origin: Origin,
-    asked: &mut DecodedCall,
+    asked: &mut BoxedCall,
     verdict: Verdict,
 ) -> Result<(), AllocError>
     requires room { S.room sink.old ≡ true }
@@ -164,12 +149,13 @@ pub(crate) fn give<S: RecordSink>(
 {
     match verdict {
         Verdict::Called => {
-            if !may_ask(peer, &asked.call, &asked.caller) {
+            let read = asked.get();
+            if !may_ask(peer, &read.call, &read.caller) {
                 let refusal = Refusal::AuthError(AuthFault::TooWeak);
                 return refuse(alloc, sink, layout, origin, refusal);
             }
-            asked.caller = caller_at(peer, asked.caller);
-            match admission_of(layout, &asked.call) {
+            asked.place_at(peer.address, peer.standing);
+            match admission_of(layout, &asked.get().call) {
                 Some(admission) => { sink.admit(origin, asked, admission.affinity, admission.room) }
                 None => answer_read(alloc, sink, layout, origin, asked),
             }

@@ -15,7 +15,7 @@ use crate::stream::{Stopped, Stream};
 use crate::taking::take_all;
 use affinity::Layout;
 use nfs_values::ConnectionNumber;
-use rpc_msg::Offer;
+use rpc_msg::{BoxedCall, Offer};
 use rpc_record::Reassembler;
 use std::alloc::{AllocError, Global};
 use std::io::Read;
@@ -42,10 +42,10 @@ fn end_of(stopped: Stopped) -> ReadEnd
     }
 }
 
-/// Reads a connection to its end, with a block for what one read gives: the calls of its records,
-/// read by what is offered, are admitted under their homes, in order and each once, and records
-/// that need no worker are answered (RFC 5531 sections 9 and 11). All records of one read are given
-/// on before the sink is told of them. The sink always has room: where it has no place for a call
+/// Reads a connection to its end, with a block for what one read gives and memory for a call: the
+/// calls of its records, read by what is offered, are admitted under their homes, in order and each
+/// once, and records that need no worker are answered (RFC 5531 sections 9 and 11). All records of
+/// one read are given on before the sink is told of them. The sink always has room: where it has no place for a call
 /// it waits for one.
 pub fn read_loop_in<W: Wait, R: Read, S: RecordSink>(
     rt: &W,
@@ -57,6 +57,7 @@ pub fn read_loop_in<W: Wait, R: Read, S: RecordSink>(
     connection: ConnectionNumber,
     peer: Peer,
     sink: &mut S,
+    asked: &mut BoxedCall,
 ) -> ReadEnd
     requires room { may_fail reader.old }
     requires some { 0 < length block.old }
@@ -78,7 +79,7 @@ pub fn read_loop_in<W: Wait, R: Read, S: RecordSink>(
             Ok(size) => size,
             Err(_) => return ReadEnd::ReaderFailed,
         };
-        let stopped = take_all(&mut stream, sink, layout, offer, &block[..size]);
+        let stopped = take_all(&mut stream, sink, layout, offer, asked, &block[..size]);
         sink.read_ended();
         match stopped {
             None => {}
@@ -105,12 +106,10 @@ pub fn read_loop<W: Wait, R: Read, S: RecordSink>(
     ensures { HasRead R.remaining S.came (layout_of layout.now) offer connection.0
         (sender_of peer) reader.old sink.old result reader.new sink.new }
 {
-    match new_block(alloc) {
-        Ok(mut block) => {
-            read_loop_in(
-                rt, alloc, reader, &mut block, layout, offer, connection, peer, sink,
-            )
-        },
-        Err(_refused) => ReadEnd::NoMemory,
-    }
+    let (Ok(mut block), Ok(mut asked)) = (new_block(alloc), BoxedCall::blank(alloc)) else {
+        return ReadEnd::NoMemory;
+    };
+    read_loop_in(
+        rt, alloc, reader, &mut block, layout, offer, connection, peer, sink, &mut asked,
+    )
 }

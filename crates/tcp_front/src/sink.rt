@@ -18,7 +18,7 @@ ghost use Rattle.tcp_front.specs.Arrivals.{Arrival, Waits, Answered};
 
 use affinity::CallNode;
 use nfs_values::{ConnectionNumber, Reply};
-use rpc_msg::DecodedCall;
+use rpc_msg::BoxedCall;
 use scheduler::Origin;
 use std::alloc::AllocError;
 
@@ -44,7 +44,7 @@ pub trait RecordSink {
     fn admit(
         &mut self,
         origin: Origin,
-        asked: &mut DecodedCall,
+        asked: &mut BoxedCall,
         affinity: CallNode,
         reply_bound: usize,
     ) -> Result<(), AllocError>

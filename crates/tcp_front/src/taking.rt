@@ -16,10 +16,7 @@ use crate::sink::RecordSink;
 use crate::stream::{MOST_RECORDS, Stopped, Stream};
 use affinity::Layout;
 use engine_feed::stream_fault;
-use rpc_msg::{
-    DecodedCall, Heard, Offer, RecordFault, RecordVerdict, Request, Verdict, read_record_into,
-    read_record_of,
-};
+use rpc_msg::{BoxedCall, Offer, RecordFault, RecordVerdict, Verdict, read_record_of};
 use scheduler::Origin;
 
 /// Gives on a record under the next number.
@@ -27,7 +24,7 @@ fn give_next<S: RecordSink>(
     stream: &mut Stream,
     sink: &mut S,
     layout: &Layout,
-    asked: &mut DecodedCall,
+    asked: &mut BoxedCall,
     told: RecordVerdict,
 ) -> Option<Stopped>
     requires room { S.room sink.old ≡ true }
@@ -68,7 +65,7 @@ fn give_read<S: RecordSink>(
     stream: &mut Stream,
     sink: &mut S,
     layout: &Layout,
-    asked: &mut DecodedCall,
+    asked: &mut BoxedCall,
     read: Result<RecordVerdict, RecordFault>,
 ) -> Option<Stopped>
     requires room { S.room sink.old ≡ true }
@@ -90,23 +87,6 @@ fn give_read<S: RecordSink>(
     }
 }
 
-/// Puts what was read of a record in its place.
-fn put_heard(asked: &mut DecodedCall, heard: Heard) -> RecordVerdict
-    ensures { told_at asked.new result ≡ heard }
-{
-    let xid = heard.xid;
-    let verdict = match heard.request {
-        Request::Call { call, caller } => {
-            asked.call = call;
-            asked.caller = caller;
-            Verdict::Called
-        }
-        Request::Refused(refusal) => Verdict::Refused(refusal),
-        Request::Undecoded => Verdict::Undecoded,
-    };
-    RecordVerdict { xid, verdict }
-}
-
 /// Reads a whole record that came in parts, by what is offered, and gives it on.
 #[inline(never)]
 fn give_joined<S: RecordSink>(
@@ -114,7 +94,7 @@ fn give_joined<S: RecordSink>(
     sink: &mut S,
     layout: &Layout,
     offer: Offer,
-    asked: &mut DecodedCall,
+    asked: &mut BoxedCall,
     record: Vec<u8>,
 ) -> Option<Stopped>
     requires room { S.room sink.old ≡ true }
@@ -126,7 +106,7 @@ fn give_joined<S: RecordSink>(
 {
     match read_record_of(stream.alloc, record, offer) {
         Ok(heard) => {
-            let told = put_heard(asked, heard);
+            let told = asked.put(heard);
             give_read(stream, sink, layout, asked, Ok(told))
         }
         Err(fault) => give_read(stream, sink, layout, asked, Err(fault)),
@@ -140,7 +120,7 @@ fn take_record<S: RecordSink>(
     sink: &mut S,
     layout: &Layout,
     offer: Offer,
-    asked: &mut DecodedCall,
+    asked: &mut BoxedCall,
     bytes: &[u8],
 ) -> (usize, Option<Stopped>)
     requires room { S.room sink.old ≡ true }
@@ -153,7 +133,7 @@ fn take_record<S: RecordSink>(
     ensures layout { S.layout sink.new ≡ S.layout sink.old }
 {
     if let Some(record) = stream.reassembler.whole(bytes) {
-        let read = read_record_into(stream.alloc, record, offer, asked);
+        let read = asked.read(stream.alloc, record, offer);
         return (
             4 + record.len(),
             give_read(stream, sink, layout, asked, read),
@@ -177,6 +157,7 @@ pub(crate) fn take_all<S: RecordSink>(
     sink: &mut S,
     layout: &Layout,
     offer: Offer,
+    asked: &mut BoxedCall,
     bytes: &[u8],
 ) -> Option<Stopped>
     requires always { (s : S) → S.room s ≡ true }
@@ -186,11 +167,10 @@ pub(crate) fn take_all<S: RecordSink>(
         bytes.now result stream.new sink.new }
     ensures layout { S.layout sink.new ≡ S.layout sink.old }
 {
-    let mut asked = DecodedCall::NOTHING;
     let mut taken = 0;
     while taken < bytes.len() {
         let left = &bytes[taken..];
-        let (size, stopped) = take_record(stream, sink, layout, offer, &mut asked, left);
+        let (size, stopped) = take_record(stream, sink, layout, offer, asked, left);
         match stopped {
             None => taken += size,
             Some(stopped) => return Some(stopped),
@@ -200,12 +180,14 @@ pub(crate) fn take_all<S: RecordSink>(
 }
 
 /// Takes bytes, and gives on the records that they complete, as long as the sink has room for one
-/// more. Answers how many it took. What it leaves where nothing stops it waits for room.
+/// more. Each is read into memory for a call, which means nothing before and behind. Answers how
+/// many it took. What it leaves where nothing stops it waits for room.
 pub fn take_some<S: RecordSink>(
     stream: &mut Stream,
     sink: &mut S,
     layout: &Layout,
     offer: Offer,
+    asked: &mut BoxedCall,
     bytes: &[u8],
 ) -> (usize, Option<Stopped>)
     requires few { stream.old.records < most_records }
@@ -216,14 +198,13 @@ pub fn take_some<S: RecordSink>(
     ensures layout { S.layout sink.new ≡ S.layout sink.old }
     ensures room { result.1 ≡ None → result.0 < length bytes.now → S.room sink.new ≡ false }
 {
-    let mut asked = DecodedCall::NOTHING;
     let mut taken = 0;
     while taken < bytes.len() {
         if !sink.has_room() {
             return (taken, None);
         }
         let left = &bytes[taken..];
-        let (size, stopped) = take_record(stream, sink, layout, offer, &mut asked, left);
+        let (size, stopped) = take_record(stream, sink, layout, offer, asked, left);
         match stopped {
             None => taken += size,
             Some(stopped) => return (taken + size, Some(stopped)),

@@ -10,7 +10,7 @@ use crate::intake::Intake;
 use crate::lane::Lane;
 use affinity::Layout;
 use connections::{Came, Connection, Device};
-use rpc_msg::Offer;
+use rpc_msg::{BoxedCall, Offer};
 use slab::Slab;
 use std::sync::Wait;
 
@@ -20,6 +20,7 @@ fn read_one<D: Device, R: Wait>(
     intake: &mut Intake<R>,
     layout: &Layout,
     offer: Offer,
+    asked: &mut BoxedCall,
     block: &mut [u8],
 ) -> Came
     requires some { 0 < length block.old }
@@ -28,7 +29,7 @@ fn read_one<D: Device, R: Wait>(
         intake.old (length block.old) result connection.new intake.new }
 {
     intake.set_owed(connection.due(), offer.handles());
-    let came = connection.read(intake, layout, offer, block);
+    let came = connection.read(intake, layout, offer, asked, block);
     connection.set_owed(intake.owed);
     came
 }
@@ -40,6 +41,7 @@ fn read_under<D: Device, R: Wait>(
     intake: &mut Intake<R>,
     layout: &Layout,
     offer: Offer,
+    asked: &mut BoxedCall,
     block: &mut [u8],
 ) -> Came
     requires some { 0 < length block.old }
@@ -49,7 +51,7 @@ fn read_under<D: Device, R: Wait>(
         intake.new }
 {
     match connections.get_mut(key) {
-        Some(connection) => read_one(connection, intake, layout, offer, block),
+        Some(connection) => read_one(connection, intake, layout, offer, asked, block),
         None => Came::Stopped,
     }
 }
@@ -60,8 +62,8 @@ impl<D: Device, R: Wait> Lane<D, R> {
     ghost use Rattle.turns.specs.Words.{seats_in, IsSameWorker};
 
     /// Goes on reading the connection of a key (`Connection::read`): what its records come to is
-    /// admitted or answered. Where there is none, nothing is done, as where its reading stopped.
-    pub fn read(&mut self, key: usize, block: &mut [u8]) -> Came
+    /// admitted or answered; each is read into memory for a call. Where there is no connection, nothing is done, as where its reading stopped.
+    pub fn read(&mut self, key: usize, asked: &mut BoxedCall, block: &mut [u8]) -> Came
         requires { 0 < length block.old }
         ensures read { ReadsUnder D.unread D.written (layout_in (filer_in self.old))
             (offer_in self.old) (connections_in self.old) key (get (connections_in self.old) key)
@@ -80,6 +82,7 @@ impl<D: Device, R: Wait> Lane<D, R> {
             &mut self.intake,
             layout,
             self.offer,
+            asked,
             block,
         )
     }

@@ -21,7 +21,7 @@ use Rattle.tcp_front.proofs.giving.give.Goals as goal
 pub admit-requires-clause-admitted : goal.admit-requires-clause-admitted
 admit-requires-clause-admitted g c =
     let a = c.in-Some.admission in
-    subst (λ (l : Layout). IsAdmitted l (message_at c.args.origin c.args.asked.now.call c.caller_at-asked.result a.affinity a.room))
+    subst (λ (l : Layout). IsAdmitted l (message_at c.args.origin c.args.asked.now.call c.place_at.new.self.caller a.affinity a.room))
     (sym c.requires.layout) (record { node = c.in-Some.ensures.waits.node; room = c.in-Some.ensures.waits.room })
 
 pub returns-in-Some-clause-ok : goal.returns-in-Some-clause-ok
@@ -29,14 +29,14 @@ returns-in-Some-clause-ok g c =
     let layout = layout_of c.args.layout.now in
     let asked = c.args.asked.now in
     let call = call_of asked.call in
-    let by = caller_of c.caller_at-asked.result in
+    let by = caller_of c.place_at.new.self.caller in
     let sender = sender_of c.args.peer in
     subst (λ (v : Verdict). OnOk c.admit.result (g.S.RecordSink.came c.args.sink.now
     (given_of layout c.args.peer c.args.origin (asked_of (request_at asked.call asked.caller v))) c.admit.new.self))
     (sym c.in-Called.is)
     (subst (λ (xs : List Arrival). OnOk c.admit.result (g.S.RecordSink.came c.args.sink.now xs c.admit.new.self))
     (waits-is layout c.args.peer c.args.origin (asked_of (request_at asked.call asked.caller Called)) (types.Ask call by)
-    (asked-by sender call (caller_of asked.caller) by (sym c.may_ask.ensures ∙ c.if-not-may_ask.false) c.caller_at-asked.ensures)
+    (asked-by sender call (caller_of asked.caller) by (sym c.may_ask.ensures ∙ c.if-not-may_ask.false) c.place_at.ensures.caller)
     (call_node c.in-Some.admission.affinity) c.in-Some.ensures.waits.at_home) c.admit.ensures.ok)
 
 pub returns-in-None-clause-ok : goal.returns-in-None-clause-ok
@@ -44,7 +44,7 @@ returns-in-None-clause-ok g c =
     let layout = layout_of c.args.layout.now in
     let asked = c.args.asked.now in
     let call = call_of asked.call in
-    let by = caller_of c.caller_at-asked.result in
+    let by = caller_of c.place_at.new.self.caller in
     let sender = sender_of c.args.peer in
     let to = c.answer_read in
     subst (λ (v : Verdict). OnOk to.result (g.S.RecordSink.came c.args.sink.now
@@ -52,7 +52,7 @@ returns-in-None-clause-ok g c =
     (sym c.in-Called.is)
     (subst (λ (xs : List Arrival). OnOk to.result (g.S.RecordSink.came c.args.sink.now xs to.new.sink))
     (answered-is layout c.args.peer c.args.origin (asked_of (request_at asked.call asked.caller Called)) (types.Ask call by)
-    (asked-by sender call (caller_of asked.caller) by (sym c.may_ask.ensures ∙ c.if-not-may_ask.false) c.caller_at-asked.ensures)
+    (asked-by sender call (caller_of asked.caller) by (sym c.may_ask.ensures ∙ c.if-not-may_ask.false) c.place_at.ensures.caller)
     (sym c.in-None.ensures.home)) to.ensures.ok)
 
 pub returns-in-Refused-clause-ok : goal.returns-in-Refused-clause-ok

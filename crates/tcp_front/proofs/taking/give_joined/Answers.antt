@@ -8,7 +8,7 @@ use Rattle.tcp_front.proofs.taking.give_joined.Goals as goal
 pub returns-in-Ok-clause-given : goal.returns-in-Ok-clause-given
 returns-in-Ok-clause-given g c =
     let made = c.args.record.items in
-    let is = c.in-Ok.is ∙ ap (λ (h : Heard). Ok h) (sym c.put_heard-told.ensures) in
+    let is = c.in-Ok.is ∙ ap (λ (h : Heard). Ok h) (sym c.put-told.ensures) in
     c.give_read.ensures.given c.args.offer made
     (subst (λ (r : Result Heard RecordFault). Hears r (heard_by c.args.offer made)) is c.read_record_of.ensures)
 

@@ -28,7 +28,7 @@ returns-in-Some-clause-taken g c =
     let reads = subst (λ (o : Option (Bor (List ℕ))). IfSome o (λ made. Reads at (take (4 + length made.now) bytes) (made.now ∷ []) at))
     c.in-Some.is c.whole.ensures.reads in
     taken-there g.S.RecordSink.came (layout_of c.args.layout.now) c.args.offer s c.give_read.new.stream c.args.sink.now c.give_read.new.sink
-    (take (4 + length made) bytes) made c.give_read.result reads begins.0 (c.give_read.ensures.given c.args.offer made c.read_record_into-read.ensures)
+    (take (4 + length made) bytes) made c.give_read.result reads begins.0 (c.give_read.ensures.given c.args.offer made c.read-read.ensures)
 
 pub returns-in-More-clause-some : goal.returns-in-More-clause-some
 returns-in-More-clause-some g c = λ none some.
