@@ -1,3 +1,4 @@
 pub mod Messages
 pub mod Tables
+pub mod Places
 pub mod Opening

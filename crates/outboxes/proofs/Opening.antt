@@ -1,10 +1,9 @@
 -- When no connection can be opened, and which number is next.
-use Rattle.std.proofs.Common.{◌≡◌, ◌≤◌, ◌<◌, ℕ, ◌^◌, Bool, true, false, List, Result, Ok, Err, refl, sym, ap, ◌∙◌, length, arith, inl, inr}
+use Rattle.std.proofs.Common.{◌≡◌, ◌≤◌, ◌<◌, ℕ, ◌^◌, Bool, true, false, List, Result, Ok, Err, refl, sym, ap, ◌∙◌, arith, inl, inr}
 use Rattle.std.specs.Prelude.{◌+◌, ◌%◌}
 use Rattle.std.proofs.Math.Nat.{add-mod_right}
 use Rattle.std.proofs.lemmas.Bool.{false≢true}
-use Rattle.std.specs.List.Sorted.{IsStrictlySortedBy}
-use Rattle.std.specs.Map.{keys_of}
+use Rattle.std.specs.FinMap.{FinMap, len}
 use Rattle.std.specs.Ordering.{nat_cmp}
 use Rattle.nfs_values.specs.declared.number.ConnectionNumber.{ConnectionNumber}
 use Rattle.outboxes.specs.declared.refusal.OpenRefusal.{OpenRefusal}
@@ -12,15 +11,14 @@ use Rattle.outboxes.specs.declared.refusal.OpenRefusal.TheVariants.{Full, NoMemo
 use Rattle.outboxes.specs.Boxes.{Boxes, IsFull}
 use Rattle.outboxes.specs.Messages.{ReplyMessage}
 use Rattle.outboxes.specs.Tables.{boxes_of}
-use Rattle.outboxes.proofs.Tables.{len-found}
 
-module _ (most next step : ℕ) (es : List (ℕ × List ReplyMessage)) where
-  pub full-by-count : (n : ℕ) → n ≡ length es → IsStrictlySortedBy nat_cmp (keys_of es) → most ≤ n → IsFull (boxes_of most next step es)
-  full-by-count n e s h = inl (let l = len-found es s in omega (arith, l, e, h))
+module _ (most next step : ℕ) (waiting : FinMap nat_cmp (List ReplyMessage)) where
+  pub full-by-count : (n : ℕ) → n ≡ len waiting → most ≤ n → IsFull (boxes_of most next step waiting)
+  full-by-count n e h = inl (omega (arith, e, h))
 
-  pub not-full : (n : ℕ) → n ≡ length es → IsStrictlySortedBy nat_cmp (keys_of es) → n < most → next < 2 ^ 62 → IsFull (boxes_of most next step es) → ⊥
-  not-full n e s h m (inl full) = let l = len-found es s in omega (arith, l, e, h, full)
-  not-full n e s h m (inr full) = omega (arith, m, full)
+  pub not-full : (n : ℕ) → n ≡ len waiting → n < most → next < 2 ^ 62 → IsFull (boxes_of most next step waiting) → ⊥
+  not-full n e h m (inl full) = omega (arith, e, h, full)
+  not-full n e h m (inr full) = omega (arith, m, full)
 
 abbrev Answered : Type 0
 Answered = Result ConnectionNumber OpenRefusal

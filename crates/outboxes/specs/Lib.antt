@@ -3,6 +3,7 @@ pub mod Boxes
 pub mod Chains
 pub mod Falls
 pub mod Popped
+pub mod Places
 pub mod Tables
 pub mod Numbers
 pub mod lemmas

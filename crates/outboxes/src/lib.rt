@@ -2,6 +2,7 @@
 #![tactic(auto)]
 
 mod addressed_record;
+mod box_list;
 mod chain;
 mod lanes;
 mod link;

@@ -5,40 +5,30 @@ ghost use Rattle.std.specs.Prelude.{
   ◌<◌,
   ◌≤◌,
   ◌↔◌,
-  [],
   None,
-  Some,
   Err,
   length,
-  drop,
   ℕ,
   OnOk,
   OnErr,
   IfOk,
-  IfErr,
 };
-ghost use Rattle.std.specs.BTreeMap as btree;
-ghost use Rattle.std.specs.BTreeMap.{Updates};
 ghost use Rattle.std.specs.FinMap.{get};
-ghost use Rattle.std.specs.Ordering.{nat_cmp};
 ghost use Rattle.nfs_values.specs.Reply.{reply_of};
-ghost use Rattle.outboxes.specs.Boxes.{addressed, first_in, most_bytes, with_last, IsFull};
+ghost use Rattle.outboxes.specs.Boxes.{addressed, most_bytes, IsFull};
 ghost use Rattle.outboxes.specs.Boxes.{none_of, none_open, oldest, opened, put, shut, taken};
 ghost use Rattle.outboxes.specs.Boxes.{most_numbers, most_open, AreOfLane, IsNumberOf};
 ghost use Rattle.outboxes.specs.Messages.{message, record_of};
-ghost use Rattle.outboxes.specs.Tables.{HasChanged};
 ghost use Rattle.outboxes.specs.declared.refusal.OpenRefusal.TheVariants as refusals;
 
 use crate::addressed_record::AddressedRecord;
-use crate::chain::Link;
+use crate::box_list::BoxList;
 use crate::link::{blank, write};
-use crate::outbox::Outbox;
 use crate::record::Record;
 use crate::refusal::OpenRefusal;
 use crate::room::Room;
 use nfs_values::{ConnectionNumber, Reply};
 use std::alloc::{AllocError, Global};
-use std::collections::BTreeMap;
 use std::marker::Model;
 
 /// The most connections that are open, where no other number is given.
@@ -56,7 +46,7 @@ const MOST_SPARE_BYTES: usize = 4_352;
 /// The records that wait for each connection that is open.
 pub struct Outboxes {
     alloc: Global,
-    by_number: BTreeMap<usize, Outbox>,
+    by_number: BoxList,
     /// The memory of records that went out, for those to come.
     spare: Vec<Room>,
     /// How many connections may be open.
@@ -90,9 +80,9 @@ impl Model for Outboxes {
 
     ghost use Rattle.outboxes.specs.Tables.{boxes_of, NoneFrom, IsStep};
 
-    ghost view = { λ o. boxes_of o.most o.next o.step o.by_number.entries };
+    ghost view = { λ o. boxes_of o.most o.next o.step o.by_number };
 
-    ghost invariant = { λ o. NoneFrom o.next o.by_number.entries × IsStep o.step };
+    ghost invariant = { λ o. NoneFrom o.next o.by_number × IsStep o.step };
 }
 
 impl Outboxes {
@@ -125,7 +115,7 @@ impl Outboxes {
     {
         Outboxes {
             alloc,
-            by_number: BTreeMap::new(alloc),
+            by_number: BoxList::new(alloc),
             spare: Vec::new(alloc),
             most,
             next: lane,
@@ -153,12 +143,12 @@ impl Outboxes {
         if number >= MOST_NUMBERS {
             return Err(OpenRefusal::Full);
         }
-        match insert(&mut self.by_number, number) {
+        match self.by_number.open(number) {
             Ok(()) => {
                 self.next = number + self.step;
                 Ok(ConnectionNumber(number))
             }
-            Err(refusal) => Err(refusal),
+            Err(AllocError) => Err(OpenRefusal::NoMemory),
         }
     }
 
@@ -167,7 +157,7 @@ impl Outboxes {
     pub fn shut(&mut self, connection: ConnectionNumber)
         ensures { self.new ≡ shut connection.0 self.old }
     {
-        let _closed = self.by_number.remove(&connection.0);
+        self.by_number.shut(connection.0);
     }
 
     /// Room for a record of this many bytes (`rpc_msg::room_of_reply`), at most 131,072, in the
@@ -200,7 +190,7 @@ impl Outboxes {
         ensures { self.new ≡ put reply self.old }
     {
         let (connection, link) = reply.into_parts();
-        put_into(&mut self.by_number, connection, link);
+        self.by_number.put(connection.0, link);
     }
 
     /// Puts a reply behind what waits for a connection, with memory of its own, for a record that
@@ -218,7 +208,7 @@ impl Outboxes {
     {
         let mut link = blank(self.alloc, 0)?;
         write(&mut link, xid, reply)?;
-        put_into(&mut self.by_number, connection, link);
+        self.by_number.put(connection.0, link);
         Ok(())
     }
 
@@ -228,39 +218,6 @@ impl Outboxes {
         ensures record { result ≡ oldest connection.0 self.old }
         ensures rest { self.new ≡ taken connection.0 self.old }
     {
-        take_from(&mut self.by_number, connection)
-    }
-}
-
-/// Adds a connection for which nothing waits.
-fn insert(outboxes: &mut BTreeMap<usize, Outbox>, number: usize) -> Result<(), OpenRefusal>
-    ensures ok { OnOk result (Updates nat_cmp outboxes.old outboxes.new number (Some [])) }
-    ensures err { OnErr result (outboxes.new.entries ≡ outboxes.old.entries) }
-    ensures memory { IfErr result (λ refusal. refusal ≡ refusals.NoMemory) }
-{
-    match outboxes.insert(number, Outbox::new()) {
-        Ok(_before) => Ok(()),
-        Err(_refused) => Err(OpenRefusal::NoMemory),
-    }
-}
-
-/// Puts a record behind what waits for a connection, if that is open.
-fn put_into(outboxes: &mut BTreeMap<usize, Outbox>, connection: ConnectionNumber, link: Box<Link>)
-    requires { link.value.bytes.items ≡ record_of link.value.numbered }
-    ensures { HasChanged (with_last link.value.numbered) connection.0 outboxes.old outboxes.new }
-{
-    if let Some(outbox) = outboxes.get_mut(&connection.0) {
-        outbox.put(link);
-    }
-}
-
-/// Takes the oldest record that waits for a connection, if that is open.
-fn take_from(outboxes: &mut BTreeMap<usize, Outbox>, connection: ConnectionNumber) -> Option<Record>
-    ensures record { result ≡ first_in (btree.get nat_cmp outboxes.old connection.0) }
-    ensures rest { HasChanged (drop 1) connection.0 outboxes.old outboxes.new }
-{
-    match outboxes.get_mut(&connection.0) {
-        Some(outbox) => outbox.take(),
-        None => None,
+        self.by_number.take(connection.0)
     }
 }

@@ -1,12 +1,11 @@
 use Rattle.std.proofs.Common.{ap}
-use Rattle.outboxes.specs.Boxes.{addressed}
+use Rattle.outboxes.specs.Boxes.{addressed, with_last}
 use Rattle.outboxes.specs.Messages.{ReplyMessage}
-use Rattle.outboxes.proofs.Tables.{puts-addressed}
+use Rattle.outboxes.proofs.Tables.{none-changed, puts-addressed}
 use Rattle.outboxes.proofs.outboxes.Outboxes.put_at_once.Goals as goal
 
 pub returns-clause-ok : goal.returns-clause-ok
 returns-clause-ok c =
     rw (← c.self.view_is)
-    (puts-addressed c.self.inside.most c.self.inside.next c.self.inside.step
-    c.self.inside.by_number.entries c.put_into.new.outboxes.entries c.args.connection.0 _ _
-    (ap (λ (numbered : ReplyMessage). addressed c.args.connection.0 numbered) c.in_ok-write.ensures.ok.0) c.put_into.ensures)
+    (puts-addressed c.self.inside.most c.self.inside.next c.self.inside.step c.self.inside.by_number c.put.new.self c.args.connection.0 _ _
+    (ap (λ (numbered : ReplyMessage). addressed c.args.connection.0 numbered) c.in_ok-write.ensures.ok.0) c.put.ensures)

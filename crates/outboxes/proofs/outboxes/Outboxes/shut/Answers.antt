@@ -1,8 +1,13 @@
-use Rattle.outboxes.proofs.Tables.{shuts}
+use Rattle.outboxes.proofs.Tables.{none-shut, shuts}
 use Rattle.outboxes.proofs.outboxes.Outboxes.shut.Goals as goal
+
+pub invariant_of-self : goal.invariant_of-self
+invariant_of-self c = (
+  none-shut c.self.inside.next c.self.inside.by_number c.shut.new.self c.self.invariant.0 c.args.connection.0 c.shut.ensures,
+  c.self.invariant.1,
+)
 
 pub returns : goal.returns
 returns c =
     rw (← c.self.view_is)
-    (shuts c.self.inside.most c.self.inside.next c.self.inside.step c.self.inside.by_number.entries
-    c.remove-closed.new.self.entries c.args.connection.0 c.remove-closed.ensures.updates.0)
+    (shuts c.self.inside.most c.self.inside.next c.self.inside.step c.self.inside.by_number c.shut.new.self c.args.connection.0 c.shut.ensures)
