@@ -191,9 +191,11 @@ push-rises : (least number : ℕ) (es : List Entry) (new : List ReplyMessage) �
     → ((q : ℕ) → number ≤ q → found es q ≡ None) → Rise least (es ++ (number, new) ∷ [])
 push-rises least number [] new low rise none = (low, tt)
 push-rises least number (e ∷ es) new low rise none =
-    let below = first-below number e es none in
-    (rise.0, push-rises (e.0 + 1) number es new (omega (arith, below)) rise.1
-        (λ q le. sym (not-first e es q (λ is. omega (arith, below, le, is))) ∙ none q le))
+    let below = first-below number e es none in (
+      rise.0,
+      push-rises (e.0 + 1) number es new (omega (arith, below)) rise.1
+          (λ q le. sym (not-first e es q (λ is. omega (arith, below, le, is))) ∙ none q le),
+    )
 
 -- ---- the list as it is stored, and what it shows
 
@@ -230,8 +232,8 @@ module _ (es : List Entry) (m : FinMap nat_cmp (List ReplyMessage)) (number : �
           → waiting_of (set es i (old.0, new)) ≡ changed_at g number m
       set-waits g new e = ap (λ n. waiting_of (set es i (n, new))) is-number
           ∙ same (set es i (number, new)) (insert m number new) (λ q.
-              set-finds 0 number i es new rise at q ∙ ap (cond (q == number) (Some new)) (sym (get-found es q) ∙ ap (λ w. get w q) is)
-              ∙ sym (get-insert_at m number new q))
+          set-finds 0 number i es new rise at q ∙ ap (cond (q == number) (Some new)) (sym (get-found es q) ∙ ap (λ w. get w q) is)
+          ∙ sym (get-insert_at m number new q))
           ∙ ap (insert m number) e ∙ sym (ap (λ o. changed_value g o number m) waited)
 
   pub none-removed : (seen : List Entry) → seen ≡ es → get (waiting_of seen) number ≡ None → waiting_of es ≡ maps.remove m number

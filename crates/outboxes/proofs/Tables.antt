@@ -4,7 +4,7 @@ use Rattle.std.proofs.Common.{if◌then◌else◌}
 use Rattle.std.specs.Option.{option_map}
 use Rattle.std.specs.Ordering.{nat_cmp}
 use Rattle.std.specs.FinMap as maps
-use Rattle.std.specs.FinMap.{FinMap, get, insert}
+use Rattle.std.specs.FinMap.{FinMap, empty, get, insert, get-empty}
 use Rattle.std.proofs.lemmas.Bool.Decides.{nat_tests}
 use Rattle.std.proofs.lemmas.Map.Views.{exact_unsigned_eq}
 use Rattle.nfs_model.specs.volume.Maps.{changed_at}
@@ -17,11 +17,18 @@ use Rattle.outboxes.specs.Tables.{boxes_of, NoneFrom}
 pub rises : (next step : ℕ) → 0 < step → next < next + step
 rises next step h = omega (arith, h)
 
+either : {X : Type 0} (b : Bool) (x : X) → cond b x x ≡ x
+either true x = refl
+either false x = refl
+
 -- ---- what is open has a number that was given
 
 -- the number that is given next isn't open
 pub fresh : (next : ℕ) (m : FinMap nat_cmp (List ReplyMessage)) → NoneFrom next m → get m next ≡ None
 fresh next m none = none next (omega arith)
+
+pub none-empty : (next : ℕ) (m : FinMap nat_cmp (List ReplyMessage)) → m ≡ empty → NoneFrom next m
+none-empty next m is = subst (λ w. NoneFrom next w) (sym is) (λ q le. get-empty nat_cmp q)
 
 module _ (next : ℕ) (m n : FinMap nat_cmp (List ReplyMessage)) (none : NoneFrom next m) where
   pub none-opened : (step : ℕ) → 0 < step → n ≡ insert m next [] → NoneFrom (next + step) n
@@ -31,11 +38,7 @@ module _ (next : ℕ) (m n : FinMap nat_cmp (List ReplyMessage)) (none : NoneFro
 
   pub none-shut : (k : ℕ) → n ≡ maps.remove m k → NoneFrom next n
   none-shut k is = subst (λ w. NoneFrom next w) (sym is) (λ q le.
-      get-remove_at m k q ∙ ap (cond (q == k) None) (none q le) ∙ neither (q == k))
-    where
-      neither : (b : Bool) → cond b None None ≡ None {A = List ReplyMessage}
-      neither true = refl
-      neither false = refl
+      get-remove_at m k q ∙ ap (cond (q == k) None) (none q le) ∙ either (q == k) None)
 
   pub none-changed : (g : List ReplyMessage → List ReplyMessage) (k : ℕ) → n ≡ changed_at g k m → NoneFrom next n
   none-changed g k is = subst (λ w. NoneFrom next w) (sym is) (λ q le. get-changed_at g k m q ∙ by q le (q == k) refl)

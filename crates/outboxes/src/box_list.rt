@@ -119,6 +119,11 @@ fn place_of(list: &[(usize, Outbox)], last: &mut usize, number: usize) -> Option
     if is_at(list, *last, number) {
         return Some(*last);
     }
+    let next = last.wrapping_add(1);
+    if is_at(list, next, number) {
+        *last = next;
+        return Some(next);
+    }
     match search(list, number) {
         Ok(place) => {
             *last = place;

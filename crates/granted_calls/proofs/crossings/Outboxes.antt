@@ -2,8 +2,9 @@
 use denote.Param.Send.{IsSend, sendable, view_send}
 use denote.Param.SendFields.{as_row_send}
 use Rattle.std.proofs.Crossing.{crosses, Box-send}
-use Rattle.std.proofs.MapsCrossing.{BTreeMap-send}
 use Rattle.outboxes.proofs.chain.Chain.TheLaws.TheKnot.{send-Chain}
+use Rattle.outboxes.specs.contracts.box_list.BoxList as BoxList
+use Rattle.outboxes.specs.contracts.box_list.BoxList.TheInside as BoxListInside
 use Rattle.outboxes.specs.contracts.chain.Chain as Chain
 use Rattle.outboxes.specs.contracts.chain.Link as Link
 use Rattle.outboxes.specs.contracts.outbox.Outbox as Outbox
@@ -34,6 +35,12 @@ outbox-inside-send = struct-send OutboxInside.the_type (chain-send, (chain-send,
 outbox-send : IsSend Outbox.the_row
 outbox-send = view_send OutboxInside.the_row _ _ _ _ outbox-inside-send
 
+box-list-inside-send : IsSend BoxListInside.the_row
+box-list-inside-send = struct-send BoxListInside.the_type (search (outbox-send, crosses, sendable) depth 20, (search sendable depth 20, tt))
+
+box-list-send : IsSend BoxList.the_row
+box-list-send = view_send BoxListInside.the_row _ _ _ _ box-list-inside-send
+
 room-inside-send : IsSend RoomInside.the_row
 room-inside-send = struct-send RoomInside.the_type (Box-send Link.the_row link-send, (search sendable depth 20, tt))
 
@@ -44,7 +51,7 @@ outboxes-inside-send : IsSend OutboxesInside.the_row
 outboxes-inside-send = struct-send OutboxesInside.the_type (
   search sendable depth 20,
   (
-    search (outbox-send, BTreeMap-send, crosses, sendable) depth 20,
+    box-list-send,
     (
       search (room-send, crosses, sendable) depth 20,
       (search sendable depth 20, (search sendable depth 20, (search sendable depth 20, tt))),

@@ -1,4 +1,4 @@
-use Rattle.std.proofs.Common.{sym, ◌∙◌}
+use Rattle.std.proofs.Common.{◌∙◌}
 use Rattle.outboxes.proofs.Places.{count}
 use Rattle.outboxes.proofs.box_list.BoxList.len.Goals as goal
 

@@ -1,8 +1,14 @@
 use Rattle.std.proofs.Common.{refl}
 use Rattle.outboxes.specs.Tables.{boxes_of}
 use Rattle.outboxes.proofs.Opening.{full-by-count, not-full, neither-opened, neither-refused, of-lane-after}
-use Rattle.outboxes.proofs.Tables.{fresh, opens, rises}
+use Rattle.outboxes.proofs.Tables.{fresh, none-opened, opens, rises}
 use Rattle.outboxes.proofs.outboxes.Outboxes.open.Goals as goal
+
+pub invariant_of-self : goal.invariant_of-self
+invariant_of-self c = (
+  none-opened c.self.inside.next c.self.inside.by_number c.open.new.self c.self.invariant.0 c.self.inside.step c.self.invariant.1.0 c.in-Ok.ensures.ok,
+  c.self.invariant.1,
+)
 
 pub returns-then-len-self-clause-full : goal.returns-then-len-self-clause-full
 returns-then-len-self-clause-full c =
