@@ -26,11 +26,12 @@ use crate::record::Record;
 use std::alloc::{AllocError, Global};
 use std::marker::Model;
 
-/// The outboxes of the connections that are open, in the order of their numbers. What is done to
-/// one connection comes in a row, so that the place that was found last is tried first.
+/// The outboxes of the connections that are open, in the order of their numbers. Mostly the one
+/// that is asked for is that of the last time, or the one behind it.
 #[derive(Drop)]
 pub(crate) struct BoxList {
     list: Vec<(usize, Outbox)>,
+    /// The place that was found last.
     last: usize,
 }
 
@@ -110,7 +111,7 @@ impl BoxList {
     }
 }
 
-/// Where the outbox of a number is, if there is one. The place is remembered.
+/// Where the outbox of a number is, if there is one: at the last place, behind it, or elsewhere.
 fn place_of(list: &[(usize, Outbox)], last: &mut usize, number: usize) -> Option<usize>
     requires { Rise 0 list.now }
     ensures place { IfSome result (IsAt list.now number) }
