@@ -26,7 +26,8 @@ use crate::entries::Entries;
 use crate::guesses::Guesses;
 use crate::page::Page;
 use crate::search::{
-    Around, find_between, find_position, guess_slot, half_of, hash_of, place_for, whole,
+    Around, find_between, find_position, guess_slot, half_of, hash_of, place_for, read_around,
+    slot_at_place, whole,
 };
 use crate::sequences::Sequence;
 use crate::spot::Spot;
@@ -129,10 +130,18 @@ impl Directory {
         }
     }
 
-    /// A slot that the entry with a name of a hash may be in, in a large directory. Nothing is
-    /// promised of it.
+    /// A slot that the entry with a name of a hash may be in. Nothing is promised of it.
     pub fn slot_guessed(&self, hash: u32) -> Option<u32> {
+        if self.guesses.is_empty() {
+            return slot_at_place(&self.by_name, hash);
+        }
         self.guesses.slot(hash)
+    }
+
+    /// Whether it is so small that its index alone tells the slots of entries. Nothing is promised
+    /// of the result.
+    pub fn is_small(&self) -> bool {
+        self.guesses.is_empty()
     }
 
     /// The fileid of the entry in a slot; 0 where it has none.
@@ -140,10 +149,22 @@ impl Directory {
         self.entries.fileid_in(slot)
     }
 
-    /// Reads where the slot of an entry with a name of a hash is guessed, so that a cache has it.
+    /// Reads where the slot of an entry with a name of a hash is guessed, so that a cache has it; in
+    /// a small directory how many entries its index has. Nothing is promised of the result.
+    pub fn read_guesses(&self, hash: u32) -> u64 {
+        if self.guesses.is_empty() {
+            return self.by_name.len() as u64;
+        }
+        u64::from(self.guesses.first_word(hash))
+    }
+
+    /// Reads what a search in the index of a small directory for a name of a hash reads first.
     /// Nothing is promised of the result.
-    pub fn read_guesses(&self, hash: u32) -> u32 {
-        self.guesses.first_word(hash)
+    pub fn read_index(&self, hash: u32) -> u64 {
+        if self.guesses.is_empty() {
+            return read_around(&self.by_name, hash);
+        }
+        0
     }
 
     /// Adds an entry, which takes the next cookie. Where there is no memory for it nothing

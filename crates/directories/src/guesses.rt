@@ -80,6 +80,11 @@ impl Guesses {
         None
     }
 
+    /// Whether there are no words, as in a small directory.
+    pub fn is_empty(&self) -> bool {
+        self.words.is_empty()
+    }
+
     /// The first word of the line of a hash, or 0.
     pub fn first_word(&self, hash: u32) -> u32 {
         match self.words.get(first_of(hash, self.mask)) {

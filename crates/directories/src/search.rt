@@ -133,6 +133,23 @@ pub fn guess_slot(index: &Sequence<Spot>, guesses: &Guesses, hash: u32) -> Optio
     guess.slot
 }
 
+/// The slot at the place in an index where a hash is guessed. Nothing is promised of it.
+pub fn slot_at_place(index: &Sequence<Spot>, hash: u32) -> Option<u32> {
+    guess_place(index, hash).slot
+}
+
+/// Reads the middle of an index, and where a hash is guessed in it. Nothing is promised of the
+/// result.
+pub fn read_around(index: &Sequence<Spot>, hash: u32) -> u64 {
+    let size = index.len();
+    if size == 0 {
+        return 0;
+    }
+    let here = index.at(share(hash, size).min(size - 1));
+    let middle = index.at(size / 2);
+    u64::from(here.hash | middle.hash)
+}
+
 /// Where a search for the names of a hash begins: where the last one ended, if it was for that
 /// hash, or else where they are guessed.
 pub fn place_for(index: &Sequence<Spot>, guesses: &Guesses, hash: u32) -> usize {

@@ -41,7 +41,6 @@ use affinity::{CallNode, Layout};
 use filer_state::Files;
 use nfs_values::{Call, Named, VolumeNumber};
 use parcels::LogicalHeld;
-use service_names::Ahead;
 use service_names::listing::PageAsked;
 use service_names::listing_plus::PagePlusAsked;
 
@@ -65,7 +64,7 @@ pub fn run_on_logical(
     ensures moved { UnlessReplied (outcome_of result) (held.new ≡ held.old) }
     ensures alike { logical_alike held.old held.new }
 {
-    look_ahead(run.ahead, volume, held);
+    look_ahead(run, volume, held);
     let fileid = fileid_of_call(layout, run.call);
     let named = Named { volume, fileid };
     // One match, since each function between moves an outcome once more.
@@ -118,9 +117,9 @@ pub fn run_on_logical(
 }
 
 /// Reads in advance what calls to come look for, if that is noted.
-fn look_ahead(ahead: Option<&Ahead>, volume: VolumeNumber, held: &LogicalHeld<Files>) {
-    if let Some(ahead) = ahead {
-        ahead.look(volume, held);
+fn look_ahead(run: Run, volume: VolumeNumber, held: &LogicalHeld<Files>) {
+    if let Some(ahead) = run.ahead {
+        ahead.look(run.call, volume, held);
     }
 }
 

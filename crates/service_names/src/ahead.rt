@@ -1,44 +1,74 @@
 //! Names that calls to come look for, read in advance.
 
+ghost use Rattle.std.specs.Prelude.{◌<◌, ◌≤◌};
+
 use directories::{Directory, hash_of};
 use filer_state::Files;
 use inodes::GROUP;
 use nfs_values::{Call, Fileid, Named, Target, VolumeNumber};
 use parcels::LogicalHeld;
 use std::alloc::Global;
+use std::array;
 use std::cell::{Cell, RefCell};
+use std::collections::VecDeque;
 
-/// How many names are kept at most. One more takes the place of all of them.
-const MOST: usize = 128;
+/// How many volumes have names of their own.
+const VOLUMES: usize = 8;
 
-/// How many calls on a volume aren't noted after names of which none was guessed, as in small
-/// directories.
+/// How many names of a volume are kept at most. One more takes the place of all of them.
+const MOST: usize = 1024;
+
+/// After how many calls a name is sought again that wasn't among the first.
+const MISSED: u32 = 8;
+
+/// How many calls on a volume aren't noted after names of which none was guessed, as in one small
+/// directory.
 const REST: u32 = 240;
 
-/// A name that a call to come looks for in a directory, and what was read of it.
+/// A name that a call to come looks for in a directory.
+#[derive(Clone, Copy)]
+struct Noted {
+    directory: Fileid,
+    hash: u32,
+}
+
+/// A name, and what was read of it.
 #[derive(Clone, Copy)]
 struct Sought {
-    directory: Fileid,
-    volume: VolumeNumber,
-    hash: u32,
+    name: Noted,
     slot: Option<u32>,
     fileid: Fileid,
     /// What came of the reads that nothing else is read by.
     read: u64,
 }
 
-/// What a lane keeps beside its calls. The names that calls to come look for: in a large directory
-/// each step of a search waits for memory; here each step is done for many names before the next
-/// one, so that they wait at the same time, and a call finds in a cache what it looks for. And how
-/// many calls were told a reply again. No reply rests on it.
-pub struct Ahead {
-    names: RefCell<Vec<Sought>>,
-    /// The volumes that names were noted of, each as a bit.
-    noted: Cell<u64>,
-    /// The volumes of which none was guessed, each as a bit.
-    resting: Cell<u64>,
-    /// How many calls more on volumes that rest aren't noted.
+/// The names that calls to come look for on a volume, in the order of the calls.
+struct Names {
+    waiting: RefCell<VecDeque<Noted>>,
+    /// How many calls on names run before more names are read.
+    until: Cell<u32>,
+    /// How many calls more aren't noted.
     rest: Cell<u32>,
+}
+
+// By hand, so that crates above have no proof of the drop of each of its parts.
+impl Drop for Names {
+    fn drop(self) {
+        let Names {
+            waiting: _,
+            until: _,
+            rest: _,
+        } = self;
+    }
+}
+
+/// What a lane keeps beside its calls. The names that calls to come look for: each step of a search
+/// waits for memory; here each step is done for many names before the next one, so that they wait
+/// at the same time, and a call finds in a cache what it looks for. And how many calls were told a
+/// reply again. No reply rests on it.
+pub struct Ahead {
+    /// By the volumes' numbers.
+    names: [Names; VOLUMES],
     /// How many calls were told a reply again, wrapping at 2^64.
     repeated: Cell<u64>,
 }
@@ -48,9 +78,6 @@ impl Drop for Ahead {
     fn drop(self) {
         let Ahead {
             names: _,
-            noted: _,
-            resting: _,
-            rest: _,
             repeated: _,
         } = self;
     }
@@ -60,10 +87,7 @@ impl Ahead {
     /// No name. It takes no memory.
     pub fn new(alloc: Global) -> Ahead {
         Ahead {
-            names: RefCell::new(Vec::new(alloc)),
-            noted: Cell::new(0),
-            resting: Cell::new(0),
-            rest: Cell::new(0),
+            names: array::from_fn(|_volume| Names::new(alloc)),
             repeated: Cell::new(0),
         }
     }
@@ -80,65 +104,92 @@ impl Ahead {
 
     /// Notes the name that a call looks for, if it does. Where there is no memory it isn't noted.
     pub fn note(&self, call: &Call) {
-        let Some((target, named)) = target_of(call) else {
-            return;
-        };
-        let volume = bit_of(named.volume);
-        if self.rests(volume) {
-            return;
-        }
-        let Ok(mut names) = self.names.try_borrow_mut() else {
-            return;
-        };
-        if names.len() >= MOST {
-            names.clear();
-            self.noted.set(0);
-        }
-        if names.push(sought_in(named, target)).is_ok() {
-            self.noted.set(self.noted.get() | volume);
+        if let Some((target, named)) = target_of(call) {
+            self.names[place_of(named.volume)].note(named.fileid, target);
         }
     }
 
-    /// Whether a volume rests. Each call that asks is one of those that aren't noted.
-    fn rests(&self, volume: u64) -> bool {
-        if self.resting.get() & volume == 0 {
-            return false;
+    /// Before a call that looks for a name runs on a volume, reads what that has of it and of the
+    /// next names that were noted, unless an earlier call did.
+    pub fn look(&self, call: &Call, volume: VolumeNumber, held: &LogicalHeld<Files>) {
+        if let Some((target, named)) = target_of(call) {
+            self.names[place_of(volume)].look(named.fileid, target, held);
         }
-        match self.rest.get() {
-            0 => {
-                self.resting.set(0);
-                false
-            }
-            rest => {
-                self.rest.set(rest - 1);
-                true
-            }
-        }
-    }
-
-    /// Reads what a volume has of the names that were noted of it, which are gone then.
-    pub fn look(&self, volume: VolumeNumber, held: &LogicalHeld<Files>) {
-        let bit = bit_of(volume);
-        if self.noted.get() & bit == 0 {
-            return;
-        }
-        let Ok(mut names) = self.names.try_borrow_mut() else {
-            return;
-        };
-        let names = &mut *names;
-        // (one alone is left to its call)
-        if names.len() > 1 && !look_for_all(names, volume, held) {
-            self.resting.set(self.resting.get() | bit);
-            self.rest.set(REST);
-        }
-        names.retain(|sought| sought.volume.0 != volume.0);
-        self.noted.set(self.noted.get() & !bit);
     }
 }
 
-/// The bit that a volume has. There are at most eight of them.
-fn bit_of(volume: VolumeNumber) -> u64 {
-    1 << (volume.0 % 64)
+impl Names {
+    /// No name. It takes no memory.
+    fn new(alloc: Global) -> Names {
+        Names {
+            waiting: RefCell::new(VecDeque::new(alloc)),
+            until: Cell::new(0),
+            rest: Cell::new(0),
+        }
+    }
+
+    /// Notes a name, unless it is one of those that aren't.
+    fn note(&self, directory: Fileid, target: &Target) {
+        let rest = self.rest.get();
+        if rest > 0 {
+            self.rest.set(rest - 1);
+            return;
+        }
+        if let Ok(mut waiting) = self.waiting.try_borrow_mut() {
+            put(&mut waiting, noted_in(directory, target));
+        }
+    }
+
+    /// Before a call runs that looks for a name, reads this one and the next ones, unless an earlier
+    /// call did.
+    fn look(&self, directory: Fileid, target: &Target, held: &LogicalHeld<Files>) {
+        match self.until.get() {
+            0 => self.read(directory, target, held),
+            until => self.until.set(until - 1),
+        }
+    }
+
+    /// Reads a name that a call looks for and the next ones, if it is among the first of these.
+    fn read(&self, directory: Fileid, target: &Target, held: &LogicalHeld<Files>) {
+        let Ok(mut waiting) = self.waiting.try_borrow_mut() else {
+            return;
+        };
+        // (one alone is left to its call)
+        if waiting.len() < 2 {
+            waiting.clear();
+            return;
+        }
+        if !leave_earlier(&mut waiting, noted_in(directory, target)) {
+            self.until.set(MISSED);
+            return;
+        }
+        let (taken, any) = read_first(&mut waiting, held);
+        self.until.set(taken.saturating_sub(1));
+        if !any {
+            waiting.clear();
+            self.rest.set(REST);
+        }
+    }
+}
+
+impl Sought {
+    /// No name.
+    const NOTHING: Sought = Sought {
+        name: Noted {
+            directory: Fileid(0),
+            hash: 0,
+        },
+        slot: None,
+        fileid: Fileid(0),
+        read: 0,
+    };
+}
+
+/// Where the names of a volume are.
+fn place_of(volume: VolumeNumber) -> usize
+    ensures { result < 8 }
+{
+    volume.0 as usize % VOLUMES
 }
 
 /// The name that a call looks for, and its directory, if it does.
@@ -152,91 +203,154 @@ fn target_of(call: &Call) -> Option<(&Target, Named)> {
     Some((target, target.directory.named()?))
 }
 
-/// A name that is looked for in a directory, of which nothing was read.
-fn sought_in(directory: Named, target: &Target) -> Sought {
-    Sought {
-        directory: directory.fileid,
-        volume: directory.volume,
+/// A name that is looked for in a directory.
+fn noted_in(directory: Fileid, target: &Target) -> Noted {
+    Noted {
+        directory,
         hash: hash_of(target.name.as_bytes()),
-        slot: None,
-        fileid: Fileid(0),
-        read: 0,
     }
 }
 
-/// Reads what a volume has of names, some at a time. Answers whether any was guessed.
-fn look_for_all(names: &mut Vec<Sought>, volume: VolumeNumber, held: &LogicalHeld<Files>) -> bool {
-    let mut any = false;
-    for group in names.chunks_mut(GROUP) {
-        any |= look_for(group, volume, held);
+/// Puts a name behind all others, or in their place if there are too many.
+fn put(waiting: &mut VecDeque<Noted>, name: Noted) {
+    if waiting.len() >= MOST {
+        waiting.clear();
     }
-    any
+    // (without memory it isn't noted)
+    let _put = waiting.push_back(name);
 }
 
-/// Reads what a volume has of some names. Answers whether any was guessed.
-fn look_for(group: &mut [Sought], volume: VolumeNumber, held: &LogicalHeld<Files>) -> bool {
-    read_guesses(group, volume, held);
-    guess(group, volume, held);
-    if group.iter().all(|sought| sought.slot.is_none()) {
+/// Leaves out names before one, whose calls have run, if it is among the first. Answers whether it
+/// is.
+fn leave_earlier(waiting: &mut VecDeque<Noted>, name: Noted) -> bool {
+    let earlier = waiting.iter().take(GROUP).position(|other| other.hash == name.hash
+        && other.directory.0 == name.directory.0);
+    match earlier {
+        Some(earlier) => {
+            for _ in 0..earlier {
+                waiting.pop_front();
+            }
+            true
+        }
+        None => false,
+    }
+}
+
+/// Takes the first names, and reads what a volume has of them. Answers how many were taken, and
+/// whether any was guessed.
+#[inline(never)] // else the room of a group is set to zero for each call
+fn read_first(waiting: &mut VecDeque<Noted>, held: &LogicalHeld<Files>) -> (u32, bool) {
+    let mut group = [Sought::NOTHING; GROUP];
+    let taken = take_into(&mut group, waiting);
+    let any = look_for(&mut group[..taken], held);
+    (taken as u32, any)
+}
+
+/// Takes the first names into a group, and tells how many.
+fn take_into(group: &mut [Sought; GROUP], waiting: &mut VecDeque<Noted>) -> usize
+    ensures { result ≤ 16 }
+{
+    for at in 0..GROUP {
+        match waiting.pop_front() {
+            Some(name) => group[at].name = name,
+            None => return at,
+        }
+    }
+    GROUP
+}
+
+/// Reads what a volume has of some names. Answers whether any was guessed, or they are in several
+/// directories.
+fn look_for(group: &mut [Sought], held: &LogicalHeld<Files>) -> bool {
+    let places = places_of(group, held);
+    read_guesses(group, &places);
+    let apart = are_apart(group);
+    if apart {
+        read_indexes(group, &places);
+        read_parents(group, held);
+    }
+    guess(group, &places, apart);
+    if !apart && group.iter().all(|sought| sought.slot.is_none()) {
         return false;
     }
-    read_entries(group, held);
+    read_entries(group, &places);
     read_inodes(group, held);
     true
 }
 
-/// The directory of a volume that a name is looked for in.
-fn directory_of(
-    held: &LogicalHeld<Files>,
-    volume: VolumeNumber,
-    sought: Sought,
-) -> Option<&Directory> {
-    if sought.volume.0 != volume.0 {
-        return None;
+/// Whether names are looked for in several directories.
+fn are_apart(group: &[Sought]) -> bool {
+    match group.first() {
+        Some(first) => group
+            .iter()
+            .any(|sought| sought.name.directory.0 != first.name.directory.0),
+        None => false,
     }
-    held.own.get().directories.get(sought.directory)
+}
+
+/// The directories that names are looked for in.
+fn places_of<'a>(group: &[Sought], held: &'a LogicalHeld<Files>) -> [Option<&'a Directory>; GROUP] {
+    let directories = &held.own.get().directories;
+    let mut places = [None; GROUP];
+    for (place, sought) in places.iter_mut().zip(group.iter()) {
+        *place = directories.get(sought.name.directory);
+    }
+    places
 }
 
 /// Reads where names are guessed.
-fn read_guesses(group: &mut [Sought], volume: VolumeNumber, held: &LogicalHeld<Files>) {
-    for sought in group.iter_mut() {
-        if let Some(directory) = directory_of(held, volume, *sought) {
-            sought.read = u64::from(directory.read_guesses(sought.hash));
+fn read_guesses(group: &mut [Sought], places: &[Option<&Directory>; GROUP]) {
+    for (sought, place) in group.iter_mut().zip(places.iter()) {
+        if let Some(directory) = place {
+            sought.read = directory.read_guesses(sought.name.hash);
         }
     }
 }
 
-/// Guesses the slots of names.
-fn guess(group: &mut [Sought], volume: VolumeNumber, held: &LogicalHeld<Files>) {
-    for sought in group.iter_mut() {
-        sought.slot = slot_of(held, volume, *sought);
+/// Reads where in indexes names are looked for first.
+fn read_indexes(group: &mut [Sought], places: &[Option<&Directory>; GROUP]) {
+    for (sought, place) in group.iter_mut().zip(places.iter()) {
+        if let Some(directory) = place {
+            sought.read = directory.read_index(sought.name.hash);
+        }
     }
 }
 
-/// The slot that a name is guessed in.
-fn slot_of(held: &LogicalHeld<Files>, volume: VolumeNumber, sought: Sought) -> Option<u32> {
-    directory_of(held, volume, sought)?.slot_guessed(sought.hash)
+/// Reads the inodes of the directories.
+fn read_parents(group: &mut [Sought], held: &LogicalHeld<Files>) {
+    for sought in group.iter_mut() {
+        sought.fileid = sought.name.directory;
+    }
+    read_inodes(group, held);
+}
+
+/// Guesses the slots of names, in small directories only where these are asked for.
+fn guess(group: &mut [Sought], places: &[Option<&Directory>; GROUP], small: bool) {
+    for (sought, place) in group.iter_mut().zip(places.iter()) {
+        if let Some(directory) = place {
+            if small || !directory.is_small() {
+                sought.slot = directory.slot_guessed(sought.name.hash);
+            }
+        }
+    }
 }
 
 /// Reads the entries in the slots of names.
-fn read_entries(group: &mut [Sought], held: &LogicalHeld<Files>) {
-    for sought in group.iter_mut() {
-        sought.fileid = fileid_of(held, *sought);
+fn read_entries(group: &mut [Sought], places: &[Option<&Directory>; GROUP]) {
+    for (sought, place) in group.iter_mut().zip(places.iter()) {
+        sought.fileid = fileid_of(*place, sought.slot);
     }
 }
 
 /// The fileid of the entry in the slot that a name is guessed in; 0 where there is none.
-fn fileid_of(held: &LogicalHeld<Files>, sought: Sought) -> Fileid {
-    let Some(slot) = sought.slot else {
-        return Fileid(0);
-    };
-    match held.own.get().directories.get(sought.directory) {
-        Some(directory) => directory.fileid_guessed(slot),
-        None => Fileid(0),
+fn fileid_of(place: Option<&Directory>, slot: Option<u32>) -> Fileid {
+    match (place, slot) {
+        (Some(directory), Some(slot)) => directory.fileid_guessed(slot),
+        _ => Fileid(0),
     }
 }
 
-/// Reads the inodes of the entries.
+/// Reads the inodes of the fileids of a group.
 fn read_inodes(group: &mut [Sought], held: &LogicalHeld<Files>) {
     let mut fileids = [Fileid(0); GROUP];
     for (fileid, sought) in fileids.iter_mut().zip(group.iter()) {
