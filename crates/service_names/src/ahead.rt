@@ -21,8 +21,12 @@ const MOST: usize = 1024;
 /// After how many calls a name is sought again that wasn't among the first.
 const MISSED: u32 = 8;
 
+/// In a volume of fewer inodes nothing is read in advance of small directories: a cache has most of
+/// what calls read of them.
+const MANY: usize = 32_768;
+
 /// How many calls on a volume aren't noted after names of which none was guessed, as in one small
-/// directory.
+/// directory or a small volume.
 const REST: u32 = 240;
 
 /// A name that a call to come looks for in a directory.
@@ -260,11 +264,11 @@ fn take_into(group: &mut [Sought; GROUP], waiting: &mut VecDeque<Noted>) -> usiz
 }
 
 /// Reads what a volume has of some names. Answers whether any was guessed, or they are in several
-/// directories.
+/// of many directories.
 fn look_for(group: &mut [Sought], held: &LogicalHeld<Files>) -> bool {
     let places = places_of(group, held);
     read_guesses(group, &places);
-    let apart = are_apart(group);
+    let apart = are_apart(group) && held.own.get().inodes.len() >= MANY;
     if apart {
         read_indexes(group, &places);
         read_parents(group, held);
