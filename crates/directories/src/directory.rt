@@ -149,8 +149,8 @@ impl Directory {
         self.entries.fileid_in(slot)
     }
 
-    /// Reads where the slot of an entry with a name of a hash is guessed, so that a cache has it; in
-    /// a small directory how many entries its index has. Nothing is promised of the result.
+    /// Reads where the slot of an entry with a name of a hash is guessed, so that a cache has it.
+    /// In a small directory it reads how many entries there are. Nothing is promised of the result.
     pub fn read_guesses(&self, hash: u32) -> u64 {
         if self.guesses.is_empty() {
             return self.by_name.len() as u64;
@@ -159,7 +159,7 @@ impl Directory {
     }
 
     /// Reads what a search in the index of a small directory for a name of a hash reads first.
-    /// Nothing is promised of the result.
+    /// In a large one it reads nothing. Nothing is promised of the result.
     pub fn read_index(&self, hash: u32) -> u64 {
         if self.guesses.is_empty() {
             return read_around(&self.by_name, hash);
