@@ -37,6 +37,7 @@ use parcels::LogicalHeld;
 use service_data::write_in_logical;
 use service_names::creating::{create, make_device, make_directory, make_symbolic_link};
 use service_names::linking::make_link;
+use service_names::look_ahead;
 use service_names::refusing::{
     creating_refusal, linking_refusal, making_refusal, node_refusal, removing_refusal,
     renaming_refusal, setting_refusal,
@@ -114,6 +115,7 @@ pub(crate) fn create_here(
     ensures moved { UnlessReplied (outcome_of result) (held.new ≡ held.old) }
     ensures alike { logical_alike held.old held.new }
 {
+    look_ahead(run.ahead, held, named, target);
     let Named { volume, fileid } = named;
     let name = target.name.as_bytes();
     let caller = run.caller;
@@ -230,6 +232,7 @@ pub(crate) fn remove_here(
     ensures moved { UnlessReplied (outcome_of result) (held.new ≡ held.old) }
     ensures alike { logical_alike held.old held.new }
 {
+    look_ahead(run.ahead, held, named, target);
     let Named { volume, fileid } = named;
     let name = target.name.as_bytes();
     if let Some(status) = removing_refusal(held, fileid, name, run.caller) {

@@ -64,7 +64,6 @@ pub fn run_on_logical(
     ensures moved { UnlessReplied (outcome_of result) (held.new ≡ held.old) }
     ensures alike { logical_alike held.old held.new }
 {
-    look_ahead(run, volume, held);
     let fileid = fileid_of_call(layout, run.call);
     let named = Named { volume, fileid };
     // One match, since each function between moves an outcome once more.
@@ -113,13 +112,6 @@ pub fn run_on_logical(
         Call::Commit { handle } => commit_here(run, held, named, handle),
         Call::MountBelow { root, path } => mount_below_here(run, held, named, root, path),
         _ => change_once(run, layout, held, named),
-    }
-}
-
-/// Reads in advance what calls to come look for, if that is noted.
-fn look_ahead(run: Run, volume: VolumeNumber, held: &LogicalHeld<Files>) {
-    if let Some(ahead) = run.ahead {
-        ahead.look(run.call, volume, held);
     }
 }
 

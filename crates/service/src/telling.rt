@@ -30,6 +30,7 @@ use service_data::read_in_logical;
 use service_names::committing::{commit, committing_refusal};
 use service_names::listing::{PageAsked, read_directory};
 use service_names::listing_plus::{PagePlusAsked, read_directory_plus};
+use service_names::look_ahead;
 use service_names::looking::lookup;
 use service_names::mounting_below::mount_below;
 use service_names::reading_link::read_link;
@@ -69,6 +70,7 @@ pub(crate) fn lookup_here(
         (moment_of run.entry.moment) (call_of (calls.Lookup target.now)))
         (logical_before held.now) (outcome_of result) (logical_before held.now) }
 {
+    look_ahead(run.ahead, held, named, target);
     let Named { volume, fileid } = named;
     if let Some(status) = lookup_refusal(held, fileid, run.caller) {
         return Outcome::Replied(Reply::Success(Answer::Lookup(Err(status))));

@@ -31,10 +31,11 @@ pub mod removing;
 pub mod setting;
 mod showing;
 mod sizing;
+mod sought;
 pub mod telling;
 mod touches;
 
-pub use ahead::Ahead;
+pub use ahead::{Ahead, look_ahead};
 pub use attributes::attributes_now;
 pub use cards::drop_cards;
 pub use child::{child_at, directory_change, is_dots, is_empty};

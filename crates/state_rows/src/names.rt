@@ -224,8 +224,8 @@ fn guessed(directory: &Directory, name: &[u8]) -> Option<Fileid> {
     Some(directory.fileid_guessed(slot))
 }
 
-/// Of how many of three thousand names the entry is guessed, and how many lines of guesses have a
-/// first word.
+/// Of how many of three thousand names the entry is guessed, and for how many there is something
+/// to read: the first word of a line of guesses, or how many entries a small directory has.
 fn read_ahead(directory: &Directory) -> (u64, u64) {
     let mut right = 0_u64;
     let mut words = 0_u64;
@@ -241,9 +241,21 @@ fn read_ahead(directory: &Directory) -> (u64, u64) {
 fn names_read_in_advance(rt: HostRuntime) {
     let mut directory = Directory::new(rt.alloc());
     same(&rt, &read_ahead(&directory), &(0, 0));
-    for number in 0..3000 {
+    for number in 0..500 {
         add(&rt, &mut directory, &digits(number), number);
     }
+    let (right, sizes) = read_ahead(&directory);
+    let is_small = directory.is_small();
+    same(&rt, &(right >= 490, sizes, is_small), &(true, 3000, true));
+    same(&rt, &(directory.read_index(0) > 0), &true);
+    for number in 500..3000 {
+        add(&rt, &mut directory, &digits(number), number);
+    }
+    same(
+        &rt,
+        &(directory.is_small(), directory.read_index(0)),
+        &(false, 0),
+    );
     let (right, words) = read_ahead(&directory);
     same(&rt, &(right >= 2900, words >= 2900), &(true, true));
     same(&rt, &directory.fileid_guessed(3000), &Fileid(0));
