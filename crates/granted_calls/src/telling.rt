@@ -23,18 +23,13 @@ pub(crate) fn starved() -> Reply
     Reply::Refused(Refusal::SystemError)
 }
 
-/// Drops what was told before, where that has memory of its own, so that what is told next can be
-/// put over it.
-pub(crate) fn make_place(told: &mut Reply) {
-    if is_large(told) {
-        tell_starved(told);
-    }
-}
-
-/// Tells a reply in a place that was made.
+/// Tells a reply in place of what was told before.
 pub(crate) fn tell(told: &mut Reply, reply: Reply)
     ensures { told.new ≡ reply }
 {
+    if is_large(told) {
+        tell_starved(told);
+    }
     mem::forget(mem::replace(told, reply));
 }
 

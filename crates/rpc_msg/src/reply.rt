@@ -2,7 +2,7 @@
 
 ghost use Rattle.std.specs.Prelude.{◌≡◌, ◌+◌, ◌*◌, ◌≤◌, ◌<◌, ◌^◌, ◌++◌, length};
 ghost use Rattle.std.specs.Prelude.{IsOk, OnOk, OnErr};
-ghost use Rattle.std.specs.Prelude.{[], vec_len, vec_capacity};
+ghost use Rattle.std.specs.Prelude.{[], ℕ, List, vec_len, vec_capacity};
 ghost use Rattle.std.specs.List.{flat_map};
 ghost use Rattle.xdr.specs.Shape.{word};
 ghost use Rattle.rpc_record.specs.Records.{limit};
@@ -18,10 +18,8 @@ use rpc_record::put_header;
 use std::alloc::AllocError;
 use xdr::put_u32;
 
-// msg_type, reply_stat, accept_stat, reject_stat and auth_flavor (RFC 5531 sections 8.2 and 9)
+// msg_type, reply_stat, accept_stat and reject_stat (RFC 5531 section 9)
 const REPLY: u32 = 1;
-
-const MSG_ACCEPTED: u32 = 0;
 
 const MSG_DENIED: u32 = 1;
 
@@ -41,8 +39,6 @@ const RPC_MISMATCH: u32 = 0;
 
 const AUTH_ERROR: u32 = 1;
 
-const AUTH_NONE: u32 = 0;
-
 /// NFS3_OK (RFC 1813 section 2.6).
 const NFS3_OK: u32 = 0;
 
@@ -60,6 +56,27 @@ fn write_words(words: &[u32], out: &mut Vec<u8>)
     }
 }
 
+/// Appends bytes, for which there is room.
+fn write_bytes(bytes: &[u8], out: &mut Vec<u8>)
+    requires { vec_len out.old + length bytes.now ≤ vec_capacity out.old }
+    ensures items { out.new.items ≡ out.old.items ++ bytes.now }
+    ensures capacity { vec_capacity out.old ≤ vec_capacity out.new }
+{
+    out.extend_from_slice(bytes).unwrap();
+}
+
+/// A reply as far as its accept_stat.
+fn accepted_head(xid: u32, status: u32) -> [u8; 24]
+    ensures { (arm : List ℕ) → result ++ arm ≡ message xid ++ accepted status arm }
+{
+    let [a, b, c, d] = xid.to_be_bytes();
+    let [e, f, g, h] = status.to_be_bytes();
+    // The xid, REPLY, MSG_ACCEPTED, AUTH_NONE of no bytes, and the accept_stat.
+    [
+        a, b, c, d, 0, 0, 0, 1, 0, 0, 0, 0, 0, 0, 0, 0, 0, 0, 0, 0, e, f, g, h,
+    ]
+}
+
 /// Appends a reply as far as its accept_stat, and the words of its arm.
 fn write_accepted(xid: u32, status: u32, arm: &[u32], out: &mut Vec<u8>)
     requires { vec_len out.old + 24 + 4 * length arm.now ≤ vec_capacity out.old }
@@ -67,7 +84,7 @@ fn write_accepted(xid: u32, status: u32, arm: &[u32], out: &mut Vec<u8>)
         ≡ out.old.items ++ (message xid ++ accepted status (flat_map word arm.now)) }
     ensures capacity { vec_capacity out.old ≤ vec_capacity out.new }
 {
-    write_words(&[xid, REPLY, MSG_ACCEPTED, AUTH_NONE, 0, status], out);
+    write_bytes(&accepted_head(xid, status), out);
     write_words(arm, out);
 }
 
