@@ -10,7 +10,7 @@ ghost use Rattle.rpc_msg.specs.Seen.{Hears, heard_at, told_at};
 use crate::fault::RecordFault;
 use crate::offer::Offer;
 use crate::record::{DecodedCall, Heard, RecordVerdict, Request, Verdict, read_record_into};
-use nfs_values::{Caller, PeerAddress, Standing};
+use nfs_values::{Call, Caller, PeerAddress, Standing};
 use std::alloc::{AllocError, Global};
 use std::marker::Model;
 use std::mem;
@@ -120,9 +120,9 @@ impl BoxedCall {
         place_caller(&mut self.asked.caller, peer, standing);
     }
 
-    /// Drops the call, and NULL, of nobody, is there.
+    /// Drops what the call has of memory of its own. What is left means nothing.
     pub fn clear(&mut self) {
-        *self.asked = DecodedCall::NOTHING;
+        self.asked.call = Call::Null;
     }
 
     /// Takes the call out. What is left means nothing.
