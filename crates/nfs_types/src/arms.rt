@@ -13,7 +13,9 @@ ghost use Rattle.nfs_types.specs.Results.{write_shape, write_value, made_shape, 
 ghost use Rattle.nfs_types.specs.Results.{renamed_shape, renamed_value};
 ghost use Rattle.nfs_types.specs.Results.{fsstat_shape, fsstat_value, commit_shape, commit_value};
 
-use crate::encode::{Encode, size_of_present, write_absent, write_present};
+use crate::encode::{
+    Encode, append, join, size_of_present, two_words, verifier_bytes, write_absent, write_present,
+};
 use nfs_values::answer::{
     AccessResults, CommitResults, FilesystemInfoResults, FilesystemStatusResults, LinkResults,
     LookupResults, MakeResults, PathConfigurationResults, ReadLinkResults, ReadResults,
@@ -23,6 +25,9 @@ use nfs_values::{BLOCK_BYTES, COUNT_LIMIT, MOST_LINKS};
 
 /// FILE_SYNC (RFC 1813 section 3.3.7).
 const FILE_SYNC: u32 = 2;
+
+/// FALSE, in the place of an optional part that is absent.
+const ABSENT: u32 = 0;
 
 impl Encode for LookupResults {
     ghost shape = { lookup_shape };
@@ -97,11 +102,9 @@ impl Encode for WriteResults {
     }
 
     fn write(&self, out: &mut Vec<u8>) {
-        write_absent(out);
-        write_absent(out);
-        self.count.write(out);
-        FILE_SYNC.write(out);
-        self.verifier.write(out);
+        let done = two_words(self.count, FILE_SYNC);
+        let behind: [u8; 16] = join(done, verifier_bytes(self.verifier));
+        append(out, &join::<8, 16, 24>(two_words(ABSENT, ABSENT), behind));
     }
 }
 

@@ -16,7 +16,7 @@ use nfs_values::{
     Attributes, BytesRead, Change, Cookie, FileHandle, FileKind, Fileid, HANDLE_BYTES, Moment,
     Name, PriorAttributes, Verifier, VolumeNumber,
 };
-use xdr::{put_bool, put_fixed, put_opaque, put_u32, put_u64};
+use xdr::{put_bool, put_opaque, put_u32, put_u64};
 
 /// A value of a type of XDR, whose spelling is shorter than 2^32 bytes.
 pub trait Encode {
@@ -196,8 +196,25 @@ impl Encode for FileHandle {
     }
 
     fn write(&self, out: &mut Vec<u8>) {
-        put_opaque(out, self.bytes_in(&mut [0; HANDLE_BYTES])).unwrap()
+        let mut space = [0; HANDLE_BYTES];
+        let bytes = self.bytes_in(&mut space);
+        if bytes.len() == HANDLE_BYTES {
+            append(out, &counted_handle(bytes));
+        } else {
+            put_opaque(out, bytes).unwrap()
+        }
     }
+}
+
+/// The bytes of a handle that names something, behind their length.
+fn counted_handle(bytes: &[u8]) -> [u8; 16]
+    requires { length bytes.now ≡ 12 }
+    ensures { result ≡ counted bytes.now }
+{
+    let mut all = [0; 16];
+    all[..4].copy_from_slice(&(HANDLE_BYTES as u32).to_be_bytes());
+    all[4..].copy_from_slice(bytes);
+    all
 }
 
 impl Encode for Fileid {
@@ -266,8 +283,15 @@ impl Encode for Verifier {
     }
 
     fn write(&self, out: &mut Vec<u8>) {
-        put_fixed(out, &self.0).unwrap()
+        append(out, &verifier_bytes(*self));
     }
+}
+
+/// The bytes of a verifier, which need no padding.
+pub(crate) fn verifier_bytes(verifier: Verifier) -> [u8; 8]
+    ensures { result ≡ spelling verifier_shape verifier.0 }
+{
+    verifier.0
 }
 
 impl Encode for Moment {
@@ -292,7 +316,10 @@ fn moment_bytes(moment: Moment) -> [u8; 8]
 }
 
 /// Bytes, and those that stand behind them.
-fn join<const A: usize, const B: usize, const N: usize>(first: [u8; A], second: [u8; B]) -> [u8; N]
+pub(crate) fn join<const A: usize, const B: usize, const N: usize>(
+    first: [u8; A],
+    second: [u8; B],
+) -> [u8; N]
     requires { A + B ≡ N }
     ensures { result ≡ first.entry ++ second.entry }
 {
@@ -304,7 +331,7 @@ fn join<const A: usize, const B: usize, const N: usize>(first: [u8; A], second: 
 }
 
 /// The bytes of two words.
-fn two_words(first: u32, second: u32) -> [u8; 8]
+pub(crate) fn two_words(first: u32, second: u32) -> [u8; 8]
     ensures { result ≡ spelling Word first ++ spelling Word second }
 {
     let mut bytes = [0; 8];
