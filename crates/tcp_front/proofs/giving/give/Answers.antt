@@ -36,9 +36,9 @@ returns-in-Some-clause-ok g c =
     let placed = c.place_at.new.self in
     let sender = sender_of c.args.peer in
     let may = ap (λ (d : DecodedCall). may_ask sender (call_of d.call) (caller_of d.caller)) (sym c.get-read.ensures)
-        ∙ sym c.may_ask.ensures ∙ c.if-not-may_ask.false in
+    ∙ sym c.may_ask.ensures ∙ c.if-not-may_ask.false in
     let is = ap (λ (k : Call). types.Ask (call_of k) (caller_of placed.caller)) c.place_at.ensures.call
-        ∙ asked-by sender (call_of asked.call) (caller_of asked.caller) (caller_of placed.caller) may c.place_at.ensures.caller in
+    ∙ asked-by sender (call_of asked.call) (caller_of asked.caller) (caller_of placed.caller) may c.place_at.ensures.caller in
     let at = ap (λ (d : DecodedCall). home layout (call_of d.call)) (sym c.get.ensures) ∙ c.in-Some.ensures.waits.at_home in
     subst (λ (v : Verdict). OnOk c.admit.result (g.S.RecordSink.came c.args.sink.now
     (given_of layout c.args.peer c.args.origin (asked_of (request_at asked.call asked.caller v))) c.admit.new.self))
@@ -55,9 +55,9 @@ returns-in-None-clause-ok g c =
     let sender = sender_of c.args.peer in
     let to = c.answer_read in
     let may = ap (λ (d : DecodedCall). may_ask sender (call_of d.call) (caller_of d.caller)) (sym c.get-read.ensures)
-        ∙ sym c.may_ask.ensures ∙ c.if-not-may_ask.false in
+    ∙ sym c.may_ask.ensures ∙ c.if-not-may_ask.false in
     let is = ap (λ (k : Call). types.Ask (call_of k) (caller_of placed.caller)) c.place_at.ensures.call
-        ∙ asked-by sender (call_of asked.call) (caller_of asked.caller) (caller_of placed.caller) may c.place_at.ensures.caller in
+    ∙ asked-by sender (call_of asked.call) (caller_of asked.caller) (caller_of placed.caller) may c.place_at.ensures.caller in
     let at = ap (λ (d : DecodedCall). home layout (call_of d.call)) (sym c.get.ensures) ∙ sym c.in-None.ensures.home in
     subst (λ (v : Verdict). OnOk to.result (g.S.RecordSink.came c.args.sink.now
     (given_of layout c.args.peer c.args.origin (asked_of (request_at asked.call asked.caller v))) to.new.sink))
