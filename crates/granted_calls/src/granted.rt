@@ -15,7 +15,7 @@ ghost use Rattle.granted_calls.specs.Filers.{layout_in};
 
 use crate::envelope::Envelope;
 use crate::shared::Filer;
-use crate::telling::{tell, tell_starved};
+use crate::telling::{make_small, tell, tell_starved};
 use crate::turned::{Gate, Place, Stage};
 use affinity::CallNode;
 use depot::{GrantRefusal, Seat};
@@ -79,6 +79,7 @@ pub(crate) fn run_on<N: TaskNode<Parcel<Files>, ParcelKinds>, G: Gate>(
         ahead: gate.ahead(),
     };
     let layout = filer.depot.layout();
+    make_small(told);
     match work_node::<Parcel<Files>, ParcelKinds, N, Run>(layout, grant, run) {
         Outcome::Replied(reply) => {
             tell(told, reply);

@@ -27,10 +27,14 @@ pub(crate) fn starved() -> Reply
 pub(crate) fn tell(told: &mut Reply, reply: Reply)
     ensures { told.new ≡ reply }
 {
+    mem::forget(mem::replace(told, reply));
+}
+
+/// Leaves nothing with memory of its own.
+pub(crate) fn make_small(told: &mut Reply) {
     if is_large(told) {
         tell_starved(told);
     }
-    mem::forget(mem::replace(told, reply));
 }
 
 /// Tells that memory ran out, in place of what was told before.

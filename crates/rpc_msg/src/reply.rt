@@ -191,8 +191,21 @@ fn write_sized(out: &mut Vec<u8>, xid: u32, size: usize, reply: &Reply) -> Resul
     ensures capacity { vec_capacity out.old ≤ vec_capacity out.new }
 {
     out.try_reserve(4 + size)?;
-    put_header(out, size as u32)?;
-    append(xid, reply, out);
+    match reply {
+        Reply::Success(answer) => {
+            let [p, q, r, s] = ((size as u32).wrapping_add(2_147_483_648)).to_be_bytes();
+            let [a, b, c, d] = xid.to_be_bytes();
+            let head = [
+                p, q, r, s, a, b, c, d, 0, 0, 0, 1, 0, 0, 0, 0, 0, 0, 0, 0, 0, 0, 0, 0, 0, 0, 0, 0,
+            ];
+            write_bytes(&head, out);
+            write_result(answer, out);
+        }
+        Reply::Refused(refusal) => {
+            put_header(out, size as u32)?;
+            append_refusal(xid, *refusal, out);
+        }
+    }
     Ok(())
 }
 
