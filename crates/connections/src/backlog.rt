@@ -88,6 +88,9 @@ impl Backlog {
         ensures ok { OnOk result (self.new ≡ self.old ++ bytes.now) }
         ensures err { OnErr result (self.new ≡ self.old) }
     {
+        if bytes.is_empty() {
+            return Ok(());
+        }
         self.bytes.try_reserve_exact(bytes.len())?;
         self.bytes.extend_from_slice(bytes)
     }

@@ -74,7 +74,7 @@ impl Chain {
         requires { link.value.bytes.items ≡ record_of link.value.numbered }
         ensures { self.new ≡ link.value.numbered ∷ self.old }
     {
-        link.rest = mem::replace(self, Chain::new());
+        mem::swap(self, &mut link.rest);
         self.row = Row::More(link);
     }
 

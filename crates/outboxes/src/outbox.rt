@@ -51,6 +51,9 @@ impl Outbox {
         ensures rest { self.new ≡ drop 1 self.old }
     {
         if self.front.is_empty() {
+            if self.back.is_empty() {
+                return None;
+            }
             self.front = mem::replace(&mut self.back, Chain::new()).reversed();
         }
         match self.front.pop() {

@@ -12,11 +12,13 @@ use crate::record::Record;
 use nfs_values::Reply;
 use std::alloc::{AllocError, Global};
 use std::marker::Model;
+use std::snapshot::Snapshot;
 
 /// Room for the record of one reply, got before the call runs.
 pub struct Room {
     link: Box<Link>,
-    bytes: usize,
+    /// How many bytes it is for, which clauses alone tell.
+    bytes: Snapshot<usize>,
 }
 
 // By hand, so that crates above have no proof of the drop of each of its parts.
@@ -33,9 +35,9 @@ impl Model for Room {
 
     ghost Value = { ℕ };
 
-    ghost view = { λ r. r.bytes };
+    ghost view = { λ r. r.bytes.value };
 
-    ghost invariant = { λ r. IsBlank r.bytes r.link.value × (r.bytes ≤ most_bytes) };
+    ghost invariant = { λ r. IsBlank r.bytes.value r.link.value × (r.bytes.value ≤ most_bytes) };
 }
 
 impl Room {
@@ -46,7 +48,7 @@ impl Room {
     {
         Ok(Room {
             link: blank(alloc, bytes)?,
-            bytes,
+            bytes: Snapshot::of(&bytes),
         })
     }
 
@@ -56,7 +58,10 @@ impl Room {
     {
         let mut link = record.into_link();
         link.bytes.clear();
-        Room { link, bytes: 0 }
+        Room {
+            link,
+            bytes: Snapshot::of(&0),
+        }
     }
 
     /// Room for a record of this many bytes in the same memory, to which more is added where it has
@@ -67,7 +72,10 @@ impl Room {
     {
         let Room { mut link, bytes: _ } = self;
         link.bytes.try_reserve_exact(bytes)?;
-        Ok(Room { link, bytes })
+        Ok(Room {
+            link,
+            bytes: Snapshot::of(&bytes),
+        })
     }
 
     /// The record of a reply, in this room, but for the bytes of a READ, which stay in theirs. The
