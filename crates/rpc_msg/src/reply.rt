@@ -2,10 +2,10 @@
 
 ghost use Rattle.std.specs.Prelude.{◌≡◌, ◌+◌, ◌*◌, ◌≤◌, ◌<◌, ◌^◌, ◌++◌, length};
 ghost use Rattle.std.specs.Prelude.{IsOk, OnOk, OnErr};
-ghost use Rattle.std.specs.Prelude.{[], ℕ, List, vec_len, vec_capacity};
+ghost use Rattle.std.specs.Prelude.{[], ℕ, List, true, vec_len, vec_capacity};
 ghost use Rattle.std.specs.List.{flat_map};
 ghost use Rattle.xdr.specs.Shape.{word};
-ghost use Rattle.rpc_record.specs.Records.{limit};
+ghost use Rattle.rpc_record.specs.Records.{header, limit};
 ghost use Rattle.nfs_values.specs.Reply.{refusal_of, reply_of};
 ghost use Rattle.rpc_msg.specs.Replies.{accepted, body_bytes, denied, message, results};
 ghost use Rattle.rpc_msg.specs.Replies.{reply_bytes, reply_record};
@@ -41,6 +41,9 @@ const AUTH_ERROR: u32 = 1;
 
 /// NFS3_OK (RFC 1813 section 2.6).
 const NFS3_OK: u32 = 0;
+
+/// The bit of a record's header that tells its last fragment (RFC 5531 section 11).
+const LAST_FRAGMENT: u32 = 1 << 31;
 
 /// How many bytes stand before those of a READ in the record of its reply.
 const READ_HEAD: usize = 48;
@@ -86,6 +89,20 @@ fn write_accepted(xid: u32, status: u32, arm: &[u32], out: &mut Vec<u8>)
 {
     write_bytes(&accepted_head(xid, status), out);
     write_words(arm, out);
+}
+
+/// The header of a record of this many bytes that is one fragment (RFC 5531 section 11), and the
+/// reply in it as far as its accept_stat, which is SUCCESS.
+fn success_head(size: u32, xid: u32) -> [u8; 28]
+    requires { size ≤ limit }
+    ensures { (arm : List ℕ) → result ++ arm ≡ header true size ++ (message xid ++ accepted 0 arm) }
+{
+    let [p, q, r, s] = (size + LAST_FRAGMENT).to_be_bytes();
+    let [a, b, c, d] = xid.to_be_bytes();
+    // Behind the header and the xid REPLY, MSG_ACCEPTED, AUTH_NONE of no bytes, and SUCCESS.
+    [
+        p, q, r, s, a, b, c, d, 0, 0, 0, 1, 0, 0, 0, 0, 0, 0, 0, 0, 0, 0, 0, 0, 0, 0, 0, 0,
+    ]
 }
 
 /// Appends a reply as far as its reject_stat, and the words of its arm.
@@ -178,6 +195,27 @@ pub fn write_reply(out: &mut Vec<u8>, xid: u32, reply: &Reply) -> Result<(), All
     Ok(())
 }
 
+/// Appends the record of a reply of this size, for which there is room.
+fn append_record(size: usize, xid: u32, reply: &Reply, out: &mut Vec<u8>)
+    requires short { length (reply_bytes xid (reply_of reply.now)) ≤ limit }
+    requires size { size ≡ 8 + length (body_bytes (reply_of reply.now)) }
+    requires room { vec_len out.old + length (reply_record xid (reply_of reply.now))
+        ≤ vec_capacity out.old }
+    ensures items { out.new.items ≡ out.old.items ++ reply_record xid (reply_of reply.now) }
+    ensures capacity { vec_capacity out.old ≤ vec_capacity out.new }
+{
+    match reply {
+        Reply::Success(answer) => {
+            write_bytes(&success_head(size as u32, xid), out);
+            write_result(answer, out);
+        }
+        Reply::Refused(refusal) => {
+            put_header(out, size as u32).unwrap();
+            append_refusal(xid, *refusal, out);
+        }
+    }
+}
+
 /// Appends the record of a reply of this size, or nothing.
 fn write_sized(out: &mut Vec<u8>, xid: u32, size: usize, reply: &Reply) -> Result<(), AllocError>
     requires short { length (reply_bytes xid (reply_of reply.now)) ≤ limit }
@@ -191,8 +229,7 @@ fn write_sized(out: &mut Vec<u8>, xid: u32, size: usize, reply: &Reply) -> Resul
     ensures capacity { vec_capacity out.old ≤ vec_capacity out.new }
 {
     out.try_reserve(4 + size)?;
-    put_header(out, size as u32)?;
-    append(xid, reply, out);
+    append_record(size, xid, reply, out);
     Ok(())
 }
 
