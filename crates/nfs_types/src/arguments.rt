@@ -34,7 +34,60 @@ use nfs_values::{
     SetAttributes, Target, Verifier, VolumeNumber, call_of_path,
 };
 use std::alloc::{AllocError, Global};
+use std::mem;
 use xdr::Fault;
+
+/// The most bytes of a name that takes no memory.
+const MOST_IN_PLACE: usize = 32;
+
+/// Whether a name has memory of its own.
+fn is_long(name: &Name) -> bool {
+    name.as_bytes().len() > MOST_IN_PLACE
+}
+
+/// Whether a call may have memory of its own.
+fn may_have_memory(call: &Call) -> bool {
+    match call {
+        Call::Null
+        | Call::GetAttributes { .. }
+        | Call::SetAttributes { .. }
+        | Call::CheckAccess { .. }
+        | Call::ReadLink { .. }
+        | Call::Read { .. }
+        | Call::ReadDirectory { .. }
+        | Call::ReadDirectoryPlus { .. }
+        | Call::FilesystemStatus { .. }
+        | Call::FilesystemInfo { .. }
+        | Call::PathConfiguration { .. }
+        | Call::Commit { .. } => false,
+        Call::Write { bytes, .. } => bytes.capacity() > 0,
+        Call::Lookup(target) => is_long(&target.name),
+        Call::Create { target, .. } => is_long(&target.name),
+        Call::Remove(target) => is_long(&target.name),
+        _ => true,
+    }
+}
+
+/// Leaves no call.
+#[inline(never)]
+fn clear_call(call: &mut Call) {
+    *call = Call::Null;
+}
+
+/// Drops a call that has memory of its own. What is left has none, and means nothing.
+#[inline(never)]
+fn free_call(call: &mut Call) {
+    if may_have_memory(call) {
+        clear_call(call);
+    }
+}
+
+/// Puts a call in place of one that has no memory of its own, and so isn't moved to be dropped.
+fn put_call(call: &mut Call, new: Call)
+    ensures { call.new ≡ new }
+{
+    mem::forget(mem::replace(call, new));
+}
 
 /// A directory and a name, which is copied.
 fn copied(alloc: Global, directory: FileHandle, name: &[u8]) -> Result<Target, Bad>
@@ -59,7 +112,7 @@ fn null(bytes: &[u8], call: &mut Call) -> Result<(), Bad>
         (asked_by Void null_call bytes.now) }
 {
     decode_all::<()>(bytes)?;
-    *call = Call::Null;
+    put_call(call, Call::Null);
     Ok(())
 }
 
@@ -69,7 +122,7 @@ fn get_attributes(bytes: &[u8], call: &mut Call) -> Result<(), Bad>
         (asked_by handle_shape getattr_call bytes.now) }
 {
     let handle = decode_all::<FileHandle>(bytes)?;
-    *call = Call::GetAttributes { handle };
+    put_call(call, Call::GetAttributes { handle });
     Ok(())
 }
 
@@ -81,7 +134,7 @@ fn set_attributes(bytes: &[u8], call: &mut Call) -> Result<(), Bad>
     let (handle, (set, guard)) = decode_all::<(FileHandle, (SetAttributes, Option<Moment>))>(
         bytes,
     )?;
-    *call = Call::SetAttributes { handle, set, guard };
+    put_call(call, Call::SetAttributes { handle, set, guard });
     Ok(())
 }
 
@@ -90,7 +143,7 @@ fn lookup(alloc: Global, bytes: &[u8], call: &mut Call) -> Result<(), Bad>
     ensures { Makes call_of true (put_in result call.new)
         (asked_by target_shape lookup_call bytes.now) }
 {
-    *call = Call::Lookup(target(alloc, bytes)?);
+    put_call(call, Call::Lookup(target(alloc, bytes)?));
     Ok(())
 }
 
@@ -100,7 +153,7 @@ fn check_access(bytes: &[u8], call: &mut Call) -> Result<(), Bad>
         (asked_by access_shape access_call bytes.now) }
 {
     let (handle, asked) = decode_all::<(FileHandle, u32)>(bytes)?;
-    *call = Call::CheckAccess { handle, asked };
+    put_call(call, Call::CheckAccess { handle, asked });
     Ok(())
 }
 
@@ -110,7 +163,7 @@ fn read_link(bytes: &[u8], call: &mut Call) -> Result<(), Bad>
         (asked_by handle_shape readlink_call bytes.now) }
 {
     let handle = decode_all::<FileHandle>(bytes)?;
-    *call = Call::ReadLink { handle };
+    put_call(call, Call::ReadLink { handle });
     Ok(())
 }
 
@@ -120,11 +173,14 @@ fn read(bytes: &[u8], call: &mut Call) -> Result<(), Bad>
         (asked_by range_shape read_call bytes.now) }
 {
     let (handle, (offset, count)) = decode_all::<(FileHandle, (u64, u32))>(bytes)?;
-    *call = Call::Read {
-        handle,
-        offset,
-        count,
-    };
+    put_call(
+        call,
+        Call::Read {
+            handle,
+            offset,
+            count,
+        },
+    );
     Ok(())
 }
 
@@ -149,13 +205,17 @@ fn write(alloc: Global, bytes: &[u8], call: &mut Call) -> Result<(), Bad>
         (FileHandle, (u64, (u32, (StableHow, &[u8])))),
     >(bytes)?;
     let mut memory = call.take_memory(alloc);
+    free_call(call);
     put_bytes(alloc, &mut memory, written)?;
-    *call = Call::Write {
-        handle,
-        offset,
-        count,
-        bytes: BytesToWrite::all(memory),
-    };
+    put_call(
+        call,
+        Call::Write {
+            handle,
+            offset,
+            count,
+            bytes: BytesToWrite::all(memory),
+        },
+    );
     Ok(())
 }
 
@@ -185,7 +245,7 @@ fn create(alloc: Global, bytes: &[u8], call: &mut Call) -> Result<(), Bad>
 {
     let ((directory, name), mode) = decode_all::<((FileHandle, &[u8]), CreateMode)>(bytes)?;
     let target = copied(alloc, directory, name)?;
-    *call = Call::Create { target, mode };
+    put_call(call, Call::Create { target, mode });
     Ok(())
 }
 
@@ -196,7 +256,7 @@ fn make_directory(alloc: Global, bytes: &[u8], call: &mut Call) -> Result<(), Ba
 {
     let ((directory, name), set) = decode_all::<((FileHandle, &[u8]), SetAttributes)>(bytes)?;
     let target = copied(alloc, directory, name)?;
-    *call = Call::MakeDirectory { target, set };
+    put_call(call, Call::MakeDirectory { target, set });
     Ok(())
 }
 
@@ -210,7 +270,7 @@ fn make_symbolic_link(alloc: Global, bytes: &[u8], call: &mut Call) -> Result<()
     >(bytes)?;
     let target = copied(alloc, directory, name)?;
     let text = Name::copied(alloc, text)?;
-    *call = Call::MakeSymbolicLink { target, set, text };
+    put_call(call, Call::MakeSymbolicLink { target, set, text });
     Ok(())
 }
 
@@ -221,11 +281,14 @@ fn make_device(alloc: Global, bytes: &[u8], call: &mut Call) -> Result<(), Bad>
 {
     let ((directory, name), device) = decode_all::<((FileHandle, &[u8]), DeviceToMake)>(bytes)?;
     let target = copied(alloc, directory, name)?;
-    *call = Call::MakeDevice {
-        target,
-        kind: device.kind(),
-        set: device.set(),
-    };
+    put_call(
+        call,
+        Call::MakeDevice {
+            target,
+            kind: device.kind(),
+            set: device.set(),
+        },
+    );
     Ok(())
 }
 
@@ -234,7 +297,7 @@ fn remove(alloc: Global, bytes: &[u8], call: &mut Call) -> Result<(), Bad>
     ensures { Makes call_of true (put_in result call.new)
         (asked_by target_shape remove_call bytes.now) }
 {
-    *call = Call::Remove(target(alloc, bytes)?);
+    put_call(call, Call::Remove(target(alloc, bytes)?));
     Ok(())
 }
 
@@ -243,7 +306,7 @@ fn remove_directory(alloc: Global, bytes: &[u8], call: &mut Call) -> Result<(), 
     ensures { Makes call_of true (put_in result call.new)
         (asked_by target_shape rmdir_call bytes.now) }
 {
-    *call = Call::RemoveDirectory(target(alloc, bytes)?);
+    put_call(call, Call::RemoveDirectory(target(alloc, bytes)?));
     Ok(())
 }
 
@@ -257,7 +320,7 @@ fn rename(alloc: Global, bytes: &[u8], call: &mut Call) -> Result<(), Bad>
     >(bytes)?;
     let from = copied(alloc, from, from_name)?;
     let to = copied(alloc, to, to_name)?;
-    *call = Call::Rename { from, to };
+    put_call(call, Call::Rename { from, to });
     Ok(())
 }
 
@@ -268,7 +331,7 @@ fn make_link(alloc: Global, bytes: &[u8], call: &mut Call) -> Result<(), Bad>
 {
     let (handle, (directory, name)) = decode_all::<(FileHandle, (FileHandle, &[u8]))>(bytes)?;
     let target = copied(alloc, directory, name)?;
-    *call = Call::MakeLink { handle, target };
+    put_call(call, Call::MakeLink { handle, target });
     Ok(())
 }
 
@@ -280,12 +343,15 @@ fn read_directory(bytes: &[u8], call: &mut Call) -> Result<(), Bad>
     let (directory, (cookie, (verifier, count))) = decode_all::<
         (FileHandle, (Cookie, (Verifier, u32))),
     >(bytes)?;
-    *call = Call::ReadDirectory {
-        directory,
-        cookie,
-        verifier,
-        count,
-    };
+    put_call(
+        call,
+        Call::ReadDirectory {
+            directory,
+            cookie,
+            verifier,
+            count,
+        },
+    );
     Ok(())
 }
 
@@ -297,13 +363,16 @@ fn read_directory_plus(bytes: &[u8], call: &mut Call) -> Result<(), Bad>
     let (directory, (cookie, (verifier, (names_count, count)))) = decode_all::<
         (FileHandle, (Cookie, (Verifier, (u32, u32)))),
     >(bytes)?;
-    *call = Call::ReadDirectoryPlus {
-        directory,
-        cookie,
-        verifier,
-        names_count,
-        count,
-    };
+    put_call(
+        call,
+        Call::ReadDirectoryPlus {
+            directory,
+            cookie,
+            verifier,
+            names_count,
+            count,
+        },
+    );
     Ok(())
 }
 
@@ -313,7 +382,7 @@ fn filesystem_status(bytes: &[u8], call: &mut Call) -> Result<(), Bad>
         (asked_by handle_shape fsstat_call bytes.now) }
 {
     let handle = decode_all::<FileHandle>(bytes)?;
-    *call = Call::FilesystemStatus { handle };
+    put_call(call, Call::FilesystemStatus { handle });
     Ok(())
 }
 
@@ -323,7 +392,7 @@ fn filesystem_info(bytes: &[u8], call: &mut Call) -> Result<(), Bad>
         (asked_by handle_shape fsinfo_call bytes.now) }
 {
     let handle = decode_all::<FileHandle>(bytes)?;
-    *call = Call::FilesystemInfo { handle };
+    put_call(call, Call::FilesystemInfo { handle });
     Ok(())
 }
 
@@ -333,7 +402,7 @@ fn path_configuration(bytes: &[u8], call: &mut Call) -> Result<(), Bad>
         (asked_by handle_shape pathconf_call bytes.now) }
 {
     let handle = decode_all::<FileHandle>(bytes)?;
-    *call = Call::PathConfiguration { handle };
+    put_call(call, Call::PathConfiguration { handle });
     Ok(())
 }
 
@@ -343,7 +412,7 @@ fn commit(bytes: &[u8], call: &mut Call) -> Result<(), Bad>
         (asked_by range_shape commit_call bytes.now) }
 {
     let (handle, _range) = decode_all::<(FileHandle, (u64, u32))>(bytes)?;
-    *call = Call::Commit { handle };
+    put_call(call, Call::Commit { handle });
     Ok(())
 }
 
@@ -353,7 +422,7 @@ fn census(bytes: &[u8], call: &mut Call) -> Result<(), Bad>
         (asked_by Void census_call bytes.now) }
 {
     decode_all::<()>(bytes)?;
-    *call = Call::Census;
+    put_call(call, Call::Census);
     Ok(())
 }
 
@@ -363,7 +432,7 @@ fn grow(bytes: &[u8], call: &mut Call) -> Result<(), Bad>
         (asked_by growing_shape grow_call bytes.now) }
 {
     let (volume, ranges) = decode_all::<(VolumeNumber, u32)>(bytes)?;
-    *call = Call::Grow { volume, ranges };
+    put_call(call, Call::Grow { volume, ranges });
     Ok(())
 }
 
@@ -373,7 +442,7 @@ fn stop(bytes: &[u8], call: &mut Call) -> Result<(), Bad>
         (asked_by Void stop_call bytes.now) }
 {
     decode_all::<()>(bytes)?;
-    *call = Call::Stop;
+    put_call(call, Call::Stop);
     Ok(())
 }
 
@@ -384,7 +453,7 @@ fn mount(alloc: Global, bytes: &[u8], call: &mut Call) -> Result<(), Bad>
 {
     let path = decode_all::<&[u8]>(bytes)?;
     let path = Name::copied(alloc, path)?;
-    *call = call_of_path(path);
+    put_call(call, call_of_path(path));
     Ok(())
 }
 
@@ -394,7 +463,7 @@ fn list_mounts(bytes: &[u8], call: &mut Call) -> Result<(), Bad>
         (asked_by Void dump_call bytes.now) }
 {
     decode_all::<()>(bytes)?;
-    *call = Call::Mount(MountCall::ListMounts);
+    put_call(call, Call::Mount(MountCall::ListMounts));
     Ok(())
 }
 
@@ -404,7 +473,7 @@ fn unmount(bytes: &[u8], call: &mut Call) -> Result<(), Bad>
         (asked_by path_shape umnt_call bytes.now) }
 {
     let _path = decode_all::<&[u8]>(bytes)?;
-    *call = Call::Mount(MountCall::Unmount);
+    put_call(call, Call::Mount(MountCall::Unmount));
     Ok(())
 }
 
@@ -414,7 +483,7 @@ fn unmount_all(bytes: &[u8], call: &mut Call) -> Result<(), Bad>
         (asked_by Void umntall_call bytes.now) }
 {
     decode_all::<()>(bytes)?;
-    *call = Call::Mount(MountCall::Unmount);
+    put_call(call, Call::Mount(MountCall::Unmount));
     Ok(())
 }
 
@@ -424,7 +493,7 @@ fn list_exports(bytes: &[u8], call: &mut Call) -> Result<(), Bad>
         (asked_by Void export_call bytes.now) }
 {
     decode_all::<()>(bytes)?;
-    *call = Call::Mount(MountCall::ListExports);
+    put_call(call, Call::Mount(MountCall::ListExports));
     Ok(())
 }
 
@@ -439,6 +508,10 @@ pub fn decode_call_into(
     ensures { Makes call_of (takes_memory procedure) (put_in result call.new)
         (asked procedure bytes.now) }
 {
+    // A WRITE takes the memory of what was there.
+    if !matches!(procedure, Procedure::Write) {
+        free_call(call);
+    }
     match procedure {
         Procedure::Null | Procedure::AdminNull | Procedure::MountNull => null(bytes, call),
         Procedure::GetAttributes => get_attributes(bytes, call),
