@@ -1,5 +1,6 @@
 //! Values that are read from a cursor.
 
+ghost use Rattle.std.specs.Prelude.{◌≡◌, ◌≤◌, length};
 ghost use Rattle.std.specs.Option.{option_map};
 ghost use Rattle.xdr.specs.Shape.{Shape, Value, Void, Word, Hyper, Pair, Optional};
 ghost use Rattle.xdr.specs.Reading.{Gives, GivesAll, all_of, read};
@@ -13,8 +14,8 @@ ghost use Rattle.nfs_types.specs.Device.{mknod_value};
 ghost use Rattle.nfs_types.specs.Stable.{stable_word};
 
 use nfs_values::{
-    Cookie, CreateMode, Device, FileHandle, FileKind, Moment, SetAttributes, SetTime, SpecialType,
-    Verifier, VolumeNumber,
+    Cookie, CreateMode, Device, FileHandle, FileKind, HANDLE_BYTES, Moment, SetAttributes, SetTime,
+    SpecialType, Verifier, VolumeNumber,
 };
 use xdr::{Cursor, Fault};
 
@@ -104,13 +105,26 @@ impl<'a> Decode<'a> for &'a [u8] {
     }
 }
 
+/// A handle that isn't of the usual size. It stands apart, so that only such a one is copied.
+#[inline(never)]
+fn unusual_handle(bytes: &[u8]) -> FileHandle
+    requires { length bytes.now ≤ 64 }
+    ensures { result ≡ bytes.now }
+{
+    FileHandle::new(bytes)
+}
+
 impl<'a> Decode<'a> for FileHandle {
     ghost shape = { handle_shape };
 
     ghost value = { λ h. h };
 
     fn decode(from: &mut Cursor<'a>) -> Result<FileHandle, Fault> {
-        Ok(FileHandle::new(from.opaque(64)?))
+        let bytes = from.opaque(64)?;
+        if bytes.len() != HANDLE_BYTES {
+            return Ok(unusual_handle(bytes));
+        }
+        Ok(FileHandle::new(bytes))
     }
 }
 
