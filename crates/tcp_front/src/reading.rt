@@ -45,8 +45,8 @@ fn end_of(stopped: Stopped) -> ReadEnd
 /// Reads a connection to its end, with a block for what one read gives and memory for a call: the
 /// calls of its records, read by what is offered, are admitted under their homes, in order and each
 /// once, and records that need no worker are answered (RFC 5531 sections 9 and 11). All records of
-/// one read are given on before the sink is told of them. The sink always has room: where it has no place for a call
-/// it waits for one.
+/// one read are given on before the sink is told of them. The sink always has room: where it has no
+/// place for a call it waits for one.
 pub fn read_loop_in<W: Wait, R: Read, S: RecordSink>(
     rt: &W,
     alloc: Global,
