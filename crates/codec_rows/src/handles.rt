@@ -68,7 +68,7 @@ fn has(rt: &impl Abort, heard: Result<Heard, RecordFault>, wanted: &[u8]) -> boo
 fn hears(rt: &(impl Abort + AllocGlobal), offer: Offer, handle: &[u32], wanted: &[u8]) -> bool {
     let record = spelled(rt, &[&GETATTR, handle]);
     let mut asked = DecodedCall::NOTHING;
-    let told = read_record_into(rt.alloc(), &record, offer, &mut asked)
+    let told = read_record_into(rt.alloc(), &record, &offer, &mut asked)
         .ok()
         .expect(rt, "a fault");
     let lies = matches!(told.verdict, Verdict::Called) && is_had(&asked.call, wanted);

@@ -1,7 +1,7 @@
 //! Heads of calls. Whole heads with their replies, and those at fault, stand in `trials/worked`.
 
 use crate::bytes::{holds, spelled};
-use nfs_values::{Call, Caller, PeerAddress, Refusal};
+use nfs_values::{Call, Caller, Credential, PeerAddress, Refusal};
 use rpc_msg::{Head, Offer, Request, Served, read_call, read_call_of, read_record};
 use std::mem;
 use std::process::Abort;
@@ -75,7 +75,8 @@ enum Found {
 /// What the head of xid 9 of a call comes to by an offer.
 fn head_of(rt: &(impl Abort + AllocGlobal), offer: Offer, called: [u32; 3]) -> Found {
     let bytes = spelled(rt, &[&[9, 0, 2], &called, &[0; 4]]);
-    let head = read_call_of(&bytes, offer);
+    let mut user = Credential::NOBODY;
+    let head = read_call_of(&bytes, &offer, &mut user);
     let found = match &head {
         Head::Call { xid: 9, .. } => Found::Call,
         Head::Refuse {
@@ -137,18 +138,18 @@ fn other_versions(rt: HostRuntime) {
 #[test]
 fn admin_null(rt: HostRuntime) {
     let offered = spelled(&rt, &[&[9, 0, 2, 0x20000001, 1, 0, 0, 0, 0, 0]]);
-    let head = read_call(&offered);
+    let mut user = Credential {
+        uid: 0,
+        gid: 0,
+        ..Credential::NOBODY
+    };
+    let head = read_call(&offered, &mut user);
     match &head {
         Head::Call {
             xid: 9,
             procedure: Served::AdminNull,
-            credential,
             arguments: [],
-        } => holds(
-            &rt,
-            "NOBODY",
-            credential.uid == 65534 && credential.gid == 65534,
-        ),
+        } => holds(&rt, "NOBODY", user.uid == 65534 && user.gid == 65534),
         _ => panic!(rt; "no call"),
     }
     mem::forget(head);

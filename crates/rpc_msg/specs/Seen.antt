@@ -6,6 +6,7 @@ use Rattle.nfs_model.specs.World as world
 use Rattle.nfs_model.specs.Serial.Starve.{has_bytes}
 use Rattle.nfs_values.specs.Call.{call_of}
 use Rattle.nfs_values.specs.Credential.{credential_of}
+use Rattle.nfs_values.specs.declared.credential.Credential.{Credential}
 use Rattle.nfs_values.specs.Caller.{caller_of}
 use Rattle.nfs_values.specs.Reply.{refusal_of}
 use Rattle.rpc_msg.specs.declared.fault.RecordFault.{RecordFault}
@@ -45,13 +46,14 @@ numbers_value n = (n.program, (n.version, (n.procedure, (n.flavor, n.size))))
 abbrev pub auth_value : ℕ × Bor (List ℕ) → Value auth_shape
 auth_value a = (a.0, a.1.now)
 
-abbrev pub body_of : Body → heads.Body
-body_of b = record { procedure = b.procedure; credential = credential_of b.credential; arguments = b.arguments.now }
+-- beside the credential that was put in its place
+abbrev pub body_of : Credential → Body → heads.Body
+body_of user b = record { procedure = b.procedure; credential = credential_of user; arguments = b.arguments.now }
 
-abbrev pub head_seen : Head → heads.Head
-head_seen (codes.Call xid procedure credential arguments) = heads.Call xid procedure (credential_of credential) arguments.now
-head_seen (codes.Refuse xid reply) = heads.Refused xid (refusal_of reply)
-head_seen (codes.Fault fault) = heads.Faulty (fault_number fault)
+abbrev pub head_seen : Credential → Head → heads.Head
+head_seen user (codes.Call xid procedure arguments) = heads.Call xid procedure (credential_of user) arguments.now
+head_seen user (codes.Refuse xid reply) = heads.Refused xid (refusal_of reply)
+head_seen user (codes.Fault fault) = heads.Faulty (fault_number fault)
 
 -- What was returned, seen by these views, is what a step gives.
 abbrev pub Says : {X Y E F : Type 0} → (X → Y) → (E → F) → Result X E → Result Y F → Type 0

@@ -97,9 +97,9 @@ impl BoxedCall {
         &mut self,
         alloc: Global,
         record: &[u8],
-        offer: Offer,
+        offer: &Offer,
     ) -> Result<RecordVerdict, RecordFault>
-        ensures { Hears (heard_at self.new result) (heard_by offer record.now) }
+        ensures { Hears (heard_at self.new result) (heard_by offer.now record.now) }
     {
         read_record_into(alloc, record, offer, &mut *self.asked)
     }

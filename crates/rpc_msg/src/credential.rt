@@ -21,50 +21,52 @@ const AUTH_SYS: u32 = 1;
 /// The most bytes of a credential's body (RFC 5531 section 8.2).
 const MOST_BODY: u32 = 400;
 
-/// Reads this many groups.
-fn read_gids(count: u32, from: &mut Cursor<'_>) -> Result<GroupList, xdr::Fault>
+/// Reads this many groups into a list.
+fn read_gids(count: u32, from: &mut Cursor<'_>, gids: &mut GroupList) -> Result<(), xdr::Fault>
     requires { count ≤ 16 }
-    ensures { Gives gids_in result (items_at (λ rest. read Word rest) count from.old) from.new }
+    ensures { Gives (λ _. gids_in gids.new) result
+        (items_at (λ rest. read Word rest) count from.old) from.new }
 {
-    let mut gids = GroupList::NONE;
+    *gids = GroupList::NONE;
     for _gid in 0..count {
-        gids = gids.with(from.u32()?);
+        *gids = gids.with(from.u32()?);
     }
-    Ok(gids)
+    Ok(())
 }
 
-/// The further groups of a user.
-fn read_groups(from: &mut Cursor<'_>) -> Result<GroupList, xdr::Fault>
-    ensures { Gives gids_in result (read (Array 16 Word) from.old) from.new }
+/// Reads the further groups of a user into a list.
+fn read_groups(from: &mut Cursor<'_>, gids: &mut GroupList) -> Result<(), xdr::Fault>
+    ensures { Gives (λ _. gids_in gids.new) result (read (Array 16 Word) from.old) from.new }
 {
     let count = from.length(16)?;
-    read_gids(count, from)
+    read_gids(count, from, gids)
 }
 
-/// The user that a body of AUTH_SYS names (RFC 5531 appendix A).
-fn read_user(body: &[u8]) -> Result<Credential, xdr::Fault>
-    ensures { Says credential_of (λ _. bad_credential) result
+/// Reads the user that a body of AUTH_SYS names (RFC 5531 appendix A).
+fn read_user(body: &[u8], user: &mut Credential) -> Result<(), xdr::Fault>
+    ensures { Says (λ _. credential_of user.new) (λ _. bad_credential) result
         (user_from (all_of auth_sys_shape body.now)) }
 {
     let mut from = Cursor::new(body);
     let _stamp = from.u32()?;
     let _machine = from.opaque(255)?;
-    let uid = from.u32()?;
-    let gid = from.u32()?;
-    let gids = read_groups(&mut from)?;
+    user.uid = from.u32()?;
+    user.gid = from.u32()?;
+    read_groups(&mut from, &mut user.gids)?;
     from.end()?;
-    Ok(Credential { uid, gid, gids })
+    Ok(())
 }
 
-/// Whom a body of AUTH_NONE or AUTH_SYS acts for.
-fn user_of(flavor: u32, body: &[u8]) -> Result<Credential, Stop>
-    ensures { Says credential_of stop_of result (acting flavor body.now) }
+/// Reads whom a body of AUTH_NONE or AUTH_SYS acts for.
+fn read_acting(flavor: u32, body: &[u8], user: &mut Credential) -> Result<(), Stop>
+    ensures { Says (λ _. credential_of user.new) stop_of result (acting flavor body.now) }
 {
     if flavor == AUTH_NONE {
-        return Ok(Credential::NOBODY);
+        *user = Credential::NOBODY;
+        return Ok(());
     }
-    match read_user(body) {
-        Ok(user) => Ok(user),
+    match read_user(body, user) {
+        Ok(()) => Ok(()),
         Err(_fault) => Err(Stop::Refuse(Refusal::AuthError(AuthFault::BadCredential))),
     }
 }
@@ -80,13 +82,16 @@ fn read_body(bytes: &[u8], size: u32) -> Result<(&[u8], &[u8]), Stop>
     }
 }
 
-/// Whom a credential whose body has `size` bytes acts for, and what stands behind it.
-pub(crate) fn read_credential(
+/// Puts whom a credential whose body has `size` bytes acts for in a place, and answers what stands
+/// behind it.
+pub(crate) fn read_credential<'a>(
     flavor: u32,
     size: u32,
-    bytes: &[u8],
-) -> Result<(Credential, &[u8]), Stop>
-    ensures { Says (with_rest credential_of) stop_of result (credential_at flavor size bytes.now) }
+    bytes: &'a [u8],
+    user: &mut Credential,
+) -> Result<&'a [u8], Stop>
+    ensures { Says (λ rest. (credential_of user.new, rest.now)) stop_of result
+        (credential_at flavor size bytes.now) }
 {
     if flavor > AUTH_SYS {
         return Err(Stop::Refuse(Refusal::AuthError(AuthFault::RejectedCredential)));
@@ -95,6 +100,6 @@ pub(crate) fn read_credential(
         return Err(Stop::Refuse(Refusal::AuthError(AuthFault::BadCredential)));
     }
     let (body, rest) = read_body(bytes, size)?;
-    let user = user_of(flavor, body)?;
-    Ok((user, rest))
+    read_acting(flavor, body, user)?;
+    Ok(rest)
 }

@@ -1,6 +1,6 @@
 //! Heads of calls (RFC 5531 section 9).
 
-ghost use Rattle.std.specs.Prelude.{◌≡◌};
+ghost use Rattle.std.specs.Prelude.{◌≡◌, IfSome, Ok};
 ghost use Rattle.xdr.specs.Reading.{read};
 ghost use Rattle.rpc_msg.specs.Replies.{auth_shape};
 ghost use Rattle.rpc_msg.specs.Heads.{body_by, head_by, head_of, numbers_shape, procedure_by};
@@ -33,11 +33,11 @@ const ADMIN_VERSION: u32 = 1;
 /// What the head of a record says.
 #[derive(Drop)]
 pub enum Head<'a> {
-    /// A call that is offered. Its arguments are the bytes behind the head.
+    /// A call that is offered, whose credential has a place of its own. Its arguments are the bytes
+    /// behind the head.
     Call {
         xid: u32,
         procedure: Procedure,
-        credential: Credential,
         arguments: &'a [u8],
     },
     /// A call that is refused, whatever its arguments.
@@ -49,11 +49,10 @@ pub enum Head<'a> {
     Fault(RecordFault),
 }
 
-/// What follows the message type of a call that is offered.
+/// What follows the message type of a call that is offered, but for its credential.
 #[derive(Drop)]
 struct Body<'a> {
     procedure: Procedure,
-    credential: Credential,
     arguments: &'a [u8],
 }
 
@@ -120,8 +119,8 @@ fn read_auth(bytes: &[u8]) -> Result<((u32, &[u8]), &[u8]), Stop>
 }
 
 /// The version of a program, where a procedure of it is offered.
-fn version_of(offer: Offer, program: u32) -> Option<u32>
-    ensures { result ≡ version_by offer program }
+fn version_of(offer: &Offer, program: u32) -> Option<u32>
+    ensures { result ≡ version_by offer.now program }
 {
     if !offer.has_program(program) {
         return None;
@@ -134,9 +133,27 @@ fn version_of(offer: Offer, program: u32) -> Option<u32>
     }
 }
 
+/// The procedure of NFS that is asked, where it is offered; nothing of another program or version.
+fn nfs_procedure(offer: &Offer, asked: Numbers) -> Option<Procedure>
+    ensures { IfSome result
+        (λ p. procedure_by offer.now asked.program asked.version asked.procedure ≡ Ok p) }
+{
+    if asked.program != NFS_PROGRAM {
+        return None;
+    }
+    if asked.version != NFS_VERSION {
+        return None;
+    }
+    match offer.procedure(NFS_PROGRAM, asked.procedure) {
+        Some(procedure) => Some(procedure),
+        None => None,
+    }
+}
+
 /// The procedure of this number in this version of a program.
-fn offered(offer: Offer, program: u32, version: u32, number: u32) -> Result<Procedure, Stop>
-    ensures { Says (λ p. p) stop_of result (procedure_by offer program version number) }
+#[inline(never)]
+fn offered(offer: &Offer, program: u32, version: u32, number: u32) -> Result<Procedure, Stop>
+    ensures { Says (λ p. p) stop_of result (procedure_by offer.now program version number) }
 {
     let Some(offered) = version_of(offer, program) else {
         return Err(Stop::Refuse(Refusal::ProgramUnavailable));
@@ -153,43 +170,48 @@ fn offered(offer: Offer, program: u32, version: u32, number: u32) -> Result<Proc
     }
 }
 
-/// The head of a call, behind its message type.
-fn read_call_body(bytes: &[u8], offer: Offer) -> Result<Body<'_>, Stop>
-    ensures { Says body_of stop_of result (body_by offer bytes.now) }
+/// The head of a call, behind its message type, but for whom it acts for, which is put in a place.
+fn read_call_body<'a>(
+    bytes: &'a [u8],
+    offer: &Offer,
+    user: &mut Credential,
+) -> Result<Body<'a>, Stop>
+    ensures { Says (body_of user.new) stop_of result (body_by offer.now bytes.now) }
 {
     let rest = read_version(bytes)?;
     let (numbers, rest) = read_numbers(rest)?;
-    let (credential, rest) = read_credential(numbers.flavor, numbers.size, rest)?;
+    let rest = read_credential(numbers.flavor, numbers.size, rest, user)?;
     let (_verifier, arguments) = read_auth(rest)?;
-    let procedure = offered(offer, numbers.program, numbers.version, numbers.procedure)?;
+    let procedure = match nfs_procedure(offer, numbers) {
+        Some(procedure) => procedure,
+        None => offered(offer, numbers.program, numbers.version, numbers.procedure)?,
+    };
     Ok(Body {
         procedure,
-        credential,
         arguments,
     })
 }
 
-/// Reads the head of a record, without memory. The first of the checks that applies decides: the
-/// number and type of the message, the version of RPC, the credential, the verifier, and the
-/// program, version and procedure, by what is offered.
-pub fn read_call_of(bytes: &[u8], offer: Offer) -> Head<'_>
-    ensures { head_seen result ≡ head_by offer bytes.now }
+/// Reads the head of a record, without memory. Whom a call acts for is put in a place for it, which
+/// means nothing where no call is told. The first of the checks that applies decides: the number
+/// and type of the message, the version of RPC, the credential, the verifier, and the program,
+/// version and procedure, by what is offered.
+pub fn read_call_of<'a>(bytes: &'a [u8], offer: &Offer, user: &mut Credential) -> Head<'a>
+    ensures { head_seen user.new result ≡ head_by offer.now bytes.now }
 {
     let (xid, rest) = match read_xid(bytes) {
         Ok(found) => found,
         Err(fault) => return Head::Fault(fault),
     };
-    match read_call_body(rest, offer) {
+    match read_call_body(rest, offer, user) {
         Ok(
             Body {
                 procedure,
-                credential,
                 arguments,
             },
         ) => Head::Call {
             xid,
             procedure,
-            credential,
             arguments,
         },
         Err(Stop::Refuse(reply)) => Head::Refuse { xid, reply },
@@ -198,8 +220,8 @@ pub fn read_call_of(bytes: &[u8], offer: Offer) -> Head<'_>
 }
 
 /// Reads the head of a record by the basic offer.
-pub fn read_call(bytes: &[u8]) -> Head<'_>
-    ensures { head_seen result ≡ head_of bytes.now }
+pub fn read_call<'a>(bytes: &'a [u8], user: &mut Credential) -> Head<'a>
+    ensures { head_seen user.new result ≡ head_of bytes.now }
 {
-    read_call_of(bytes, Offer::basic())
+    read_call_of(bytes, &Offer::basic(), user)
 }

@@ -74,31 +74,29 @@ pub struct RecordVerdict {
     pub verdict: Verdict,
 }
 
-/// Whom a call acts for, as far as its record says.
-fn caller_by(xid: u32, credential: Credential) -> Caller
-    ensures { caller_of result ≡ caller_said xid (credential_of credential) }
+/// Makes of the caller of a record, whose credential is there, what the record says of it besides.
+fn name_caller(caller: &mut Caller, xid: u32)
+    ensures { caller_of caller.new ≡ caller_said xid (credential_of caller.old.credential) }
 {
-    Caller {
-        credential,
-        xid,
-        peer: PeerAddress::NONE,
-        is_checked: false,
-        reads_only: false,
-    }
+    caller.xid = xid;
+    caller.peer = PeerAddress::NONE;
+    caller.is_checked = false;
+    caller.reads_only = false;
 }
 
 /// What a call asks whose arguments were decoded so.
-fn request_of(xid: u32, credential: Credential, decoded: Result<Call, Bad>) -> Request
+fn request_of(xid: u32, caller: Caller, decoded: Result<Call, Bad>) -> Request
     ensures { (procedure : Procedure) (arguments : List ℕ)
         → Makes call_of (takes_memory procedure) decoded (asked procedure arguments)
         → IsRequestOf xid result
-        (heard_from Plain (Asks xid procedure (credential_of credential) arguments)) }
+        (heard_from Plain (Asks xid procedure (credential_of caller.credential) arguments)) }
 {
     match decoded {
-        Ok(call) => Request::Call {
-            call,
-            caller: caller_by(xid, credential),
-        },
+        Ok(call) => {
+            let mut caller = caller;
+            name_caller(&mut caller, xid);
+            Request::Call { call, caller }
+        }
         Err(Bad::Fault(_fault)) => Request::Refused(Refusal::GarbageArguments),
         Err(Bad::NoMemory) => Request::Undecoded,
     }
@@ -108,18 +106,18 @@ fn request_of(xid: u32, credential: Credential, decoded: Result<Call, Bad>) -> R
 fn read_spelled(alloc: Global, record: Vec<u8>, offer: Offer) -> Result<Heard, RecordFault>
     ensures { Hears result (heard_from Plain (head_by offer record.items)) }
 {
-    match read_call_of(&record, offer) {
+    let mut caller = Caller::NOBODY;
+    match read_call_of(&record, &offer, &mut caller.credential) {
         Head::Call {
             xid,
             procedure,
-            credential,
             arguments,
         } => {
             let from = record.len() - arguments.len();
             let decoded = decode_in_place(alloc, procedure, record, from);
             Ok(Heard {
                 xid,
-                request: request_of(xid, credential, decoded),
+                request: request_of(xid, caller, decoded),
             })
         }
         Head::Refuse { xid, reply } => Ok(Heard {
@@ -190,19 +188,18 @@ fn read_call_into(
 pub fn read_record_into(
     alloc: Global,
     record: &[u8],
-    offer: Offer,
+    offer: &Offer,
     asked: &mut DecodedCall,
 ) -> Result<RecordVerdict, RecordFault>
-    ensures { Hears (heard_at asked.new result) (heard_by offer record.now) }
+    ensures { Hears (heard_at asked.new result) (heard_by offer.now record.now) }
 {
-    match read_call_of(record, offer) {
+    match read_call_of(record, offer, &mut asked.caller.credential) {
         Head::Call {
             xid,
             procedure,
-            credential,
             arguments,
         } => {
-            asked.caller = caller_by(xid, credential);
+            name_caller(&mut asked.caller, xid);
             let form = offer.handles();
             let verdict = read_call_into(alloc, procedure, arguments, form, &mut asked.call);
             Ok(RecordVerdict { xid, verdict })

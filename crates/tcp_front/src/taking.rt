@@ -133,7 +133,7 @@ fn take_record<S: RecordSink>(
     ensures layout { S.layout sink.new ≡ S.layout sink.old }
 {
     if let Some(record) = stream.reassembler.whole(bytes) {
-        let read = asked.read(stream.alloc, record, offer);
+        let read = asked.read(stream.alloc, record, &offer);
         return (
             4 + record.len(),
             give_read(stream, sink, layout, asked, read),

@@ -1,13 +1,14 @@
 -- The procedures that are offered, by their numbers.
-use Rattle.std.proofs.Common.{◌≡◌, ◌≢◌, ℕ, Bool, true, false, cond, ◌&&◌, eqb, List, [], ◌∷◌, Option, Some, None, find, refl, subst}
-use Rattle.std.specs.List.{filter}
-use Rattle.std.proofs.lemmas.Bool.{eqb-true}
+use Rattle.std.proofs.Common.{◌≡◌, ◌≢◌, ℕ, Bool, true, false, cond, ◌&&◌, eqb, List, [], ◌∷◌, Option, Some, None, Ok, find, refl, subst}
+use Rattle.std.specs.List.{filter, list_any}
+use Rattle.std.proofs.Math.Bool.{or-true}
+use Rattle.std.proofs.lemmas.Bool.{eq-eqb, eqb-true}
 use Rattle.rpc_msg.specs.declared.offer.Offer.{Offer}
 use Rattle.nfs_values.specs.declared.procedure.Procedure.{Procedure}
-use Rattle.rpc_msg.specs.Offer.{offers}
+use Rattle.rpc_msg.specs.Offer.{offers, offers_program}
 use Rattle.nfs_values.specs.Procedure.{all_procedures, numbers_of}
 use Rattle.nfs_types.specs.lemmas.Numbered.{found_again, one_numbered}
-use Rattle.rpc_msg.specs.Heads.{is_numbered, procedures_by}
+use Rattle.rpc_msg.specs.Heads.{is_numbered, procedure_by, procedures_by}
 
 -- ---- what is found among those that are kept
 
@@ -93,3 +94,29 @@ find_again offer p s = found_kept (offers offer) (is_numbered (numbers_of p).0 (
 pub some_numbered : (offer : Offer) (program number : ℕ) (p : Procedure) → numbers_of p ≡ (program, number) → offers offer p ≡ true
     → find (is_numbered program number) (procedures_by offer) ≡ Some p
 some_numbered offer program number p e s = subst (λ (n : ℕ × ℕ). find (is_numbered n.0 n.1) (procedures_by offer) ≡ Some p) e (find_again offer p s)
+
+-- ---- a procedure of NFS
+
+module _ (weak test : Procedure → Bool) (p : Procedure) (passes : weak p ≡ true) (only : (q : Procedure) → test q ≡ true → q ≡ p) where
+  any_first : (b : Bool) (q : Procedure) (ps : List Procedure) → test q ≡ b → cond b (Some q) (find test ps) ≡ Some p
+      → (find test ps ≡ Some p → list_any weak ps ≡ true) → list_any weak (q ∷ ps) ≡ true
+  any_first true q ps e h more = let same : q ≡ p = only q e in rw (same, passes) refl
+  any_first false q ps e h more = rw (more h) (or-true (weak q))
+
+  -- the one that is found passes a weaker test
+  any_found : (ps : List Procedure) → find test ps ≡ Some p → list_any weak ps ≡ true
+  any_found [] h = absurd cc
+  any_found (q ∷ ps) h = any_first (test q) q ps refl h (any_found ps)
+
+-- any of its program is offered with one
+pub program_offered : (offer : Offer) (p : Procedure) → offers offer p ≡ true → offers_program offer (numbers_of p).0 ≡ true
+program_offered offer p s =
+    any_found (λ q. offers offer q && eqb (numbers_of q).0 (numbers_of p).0) (is_numbered (numbers_of p).0 (numbers_of p).1) p
+    (rw s (eq-eqb (numbers_of p).0 (numbers_of p).0 refl)) (itself p) all_procedures (found_again p)
+
+-- one of version 3 is what its numbers ask
+pub nfs_offered : (offer : Offer) (program version number : ℕ) (p : Procedure) → program ≡ 100003 → version ≡ 3
+    → numbers_of p ≡ (100003, number) → offers offer p ≡ true → procedure_by offer program version number ≡ Ok p
+nfs_offered offer program version number p e f n s =
+    let known : offers_program offer 100003 ≡ true = subst (λ (m : ℕ × ℕ). offers_program offer m.0 ≡ true) n (program_offered offer p s) in
+    rw (e, f, known, some_numbered offer 100003 number p n s) refl

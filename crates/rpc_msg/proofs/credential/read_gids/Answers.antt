@@ -17,7 +17,7 @@ pub loop-gid-preserved : goal.loop-gid-preserved
 loop-gid-preserved c =
     let l = c.loop-gid in
     let first = c.in_ok-u32.field-0 in
-    let one = c.with-gids.ensures in
+    let one = c.with.ensures in
     let left = items_at (λ rest. read Word rest) (c.args.count - (l._gid + 1)) c.u32.new.self in (
       ap (λ (gids : List ℕ). behind gids left) one
           ∙ sym (word_read (gids_in l.gids) c.args.count l._gid l.from (first, c.u32.new.self) (omega arith) c.in_ok-u32.ensures)

@@ -14,16 +14,16 @@ pub overflow_sub-from : goal.overflow_sub-from
 overflow_sub-from c =
     let bytes = c.args.record.items in
     let k = c.in-Call in
-    let says = ap (head_by c.args.offer) (sym c.deref.ensures.value) ∙ sym c.read_call_of.ensures ∙ ap head_seen k.is in
-    (arguments-end c.args.offer bytes k.xid k.procedure (credential_of k.credential) k.arguments.now c.len.result
+    let says = ap (head_by c.args.offer) (sym c.deref.ensures.value) ∙ sym c.read_call_of.ensures ∙ ap (head_seen c.read_call_of.new.user) k.is in
+    (arguments-end c.args.offer bytes k.xid k.procedure (credential_of c.read_call_of.new.user) k.arguments.now c.len.result
     (are_bytes bytes (λ i lt. omega (arith, lt))) says (c.len.ensures ∙ c.args.record.ok.0)).fits
 
 pub returns-in-Call : goal.returns-in-Call
 returns-in-Call c =
     let bytes = c.args.record.items in
     let k = c.in-Call in
-    let who = credential_of k.credential in
-    let says = ap (head_by c.args.offer) (sym c.deref.ensures.value) ∙ sym c.read_call_of.ensures ∙ ap head_seen k.is in
+    let who = credential_of c.read_call_of.new.user in
+    let says = ap (head_by c.args.offer) (sym c.deref.ensures.value) ∙ sym c.read_call_of.ensures ∙ ap (head_seen c.read_call_of.new.user) k.is in
     let end = arguments-end c.args.offer bytes k.xid k.procedure who k.arguments.now c.len.result (are_bytes bytes (λ i lt. omega (arith, lt))) says
     (c.len.ensures ∙ c.args.record.ok.0) in
     subst (λ (h : Head). IsRequestOf k.xid c.request_of.result (heard_from Plain h)) (sym says)

@@ -12,6 +12,6 @@ pub returns-in-Err-NoMemory : goal.returns-in-Err-NoMemory
 returns-in-Err-NoMemory c = λ procedure arguments makes.
     let k = c.in-Err-NoMemory in
     let bad : k.field-0 ≡ NoMemory = rw k.is at k.field-0-is in
-    undecoded c.args.xid procedure (credential_of c.args.credential) arguments
+    undecoded c.args.xid procedure (credential_of c.args.caller.credential) arguments
     (subst (λ (b : Bad). Makes call_of (takes_memory procedure) (Err b) (asked procedure arguments)) bad
     (subst (λ (r : Result Call Bad). Makes call_of (takes_memory procedure) r (asked procedure arguments)) k.is makes))
