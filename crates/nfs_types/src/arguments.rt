@@ -82,10 +82,11 @@ fn free_call(call: &mut Call) {
     }
 }
 
-/// Puts a call in place of one that has no memory of its own, and so isn't moved to be dropped.
+/// Puts a call in place of what was there. What has no memory isn't moved to be dropped.
 fn put_call(call: &mut Call, new: Call)
     ensures { call.new ≡ new }
 {
+    free_call(call);
     mem::forget(mem::replace(call, new));
 }
 
@@ -205,7 +206,6 @@ fn write(alloc: Global, bytes: &[u8], call: &mut Call) -> Result<(), Bad>
         (FileHandle, (u64, (u32, (StableHow, &[u8])))),
     >(bytes)?;
     let mut memory = call.take_memory(alloc);
-    free_call(call);
     put_bytes(alloc, &mut memory, written)?;
     put_call(
         call,
@@ -508,10 +508,6 @@ pub fn decode_call_into(
     ensures { Makes call_of (takes_memory procedure) (put_in result call.new)
         (asked procedure bytes.now) }
 {
-    // A WRITE takes the memory of what was there.
-    if !matches!(procedure, Procedure::Write) {
-        free_call(call);
-    }
     match procedure {
         Procedure::Null | Procedure::AdminNull | Procedure::MountNull => null(bytes, call),
         Procedure::GetAttributes => get_attributes(bytes, call),
