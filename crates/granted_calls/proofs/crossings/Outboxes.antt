@@ -42,7 +42,7 @@ box-list-send : IsSend BoxList.the_row
 box-list-send = view_send BoxListInside.the_row _ _ _ _ box-list-inside-send
 
 room-inside-send : IsSend RoomInside.the_row
-room-inside-send = struct-send RoomInside.the_type (Box-send Link.the_row link-send, (search sendable depth 20, tt))
+room-inside-send = struct-send RoomInside.the_type (Box-send Link.the_row link-send, (search (crosses, sendable) depth 20, tt))
 
 pub room-send : IsSend Room.the_row
 room-send = view_send RoomInside.the_row _ _ _ _ room-inside-send
