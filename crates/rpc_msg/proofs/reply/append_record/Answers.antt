@@ -1,4 +1,6 @@
 use Rattle.std.proofs.Common.{◌≡◌, List, ℕ, ◌++◌, length, refl, ap, ◌∙◌, arith}
+use Rattle.nfs_types.specs.Results.{answer_bytes}
+use Rattle.nfs_values.specs.Answer.{answer_of}
 use Rattle.nfs_values.specs.Reply.{reply_of}
 use Rattle.rpc_msg.specs.Replies.{reply_bytes}
 use Rattle.rpc_msg.proofs.Framed.{record-begun, record-put}
