@@ -3,6 +3,7 @@ pub mod Places
 pub mod Slots
 pub mod Orders
 pub mod Names
+pub mod Eights
 pub mod Found
 pub mod Halved
 pub mod Middle

@@ -2,8 +2,12 @@
 
 ghost use Rattle.std.specs.Prelude.{
   ◌≡◌,
+  ◌+◌,
   ◌<◌,
+  ◌≤◌,
   length,
+  take,
+  drop,
   true,
   None,
   Some,
@@ -12,6 +16,8 @@ ghost use Rattle.std.specs.Prelude.{
   IfOk,
   OnErr,
 };
+ghost use Rattle.std.specs.Int.{w64, to_le_bytes};
+ghost use Rattle.nfs_model.specs.Names.{same_name};
 ghost use Rattle.nfs_values.specs.Answer.{entry_of};
 ghost use Rattle.directories.specs.Slots.{in_slot, has_cookie, IsNamed, Becomes, PutInto};
 
@@ -73,10 +79,29 @@ pub fn fileid_at(slots: &[Slot], slot: u32) -> Fileid {
 fn fileid_of(entry: &DirectoryEntry, name: &[u8]) -> Option<Fileid>
     ensures { IfSome result (λ f. IsNamed (Some (entry_of entry.now)) name.now f.0) }
 {
-    if entry.name.as_bytes() == name {
+    if is_same(entry.name.as_bytes(), name) {
         return Some(entry.fileid);
     }
     None
+}
+
+/// Whether two names are one. Those of 8 to 16 bytes, as most are, are compared by eight at once.
+fn is_same(name: &[u8], other: &[u8]) -> bool
+    ensures { result ≡ same_name name.now other.now }
+{
+    if name.len() != other.len() || name.len() < 8 || name.len() > 16 {
+        return name == other;
+    }
+    let last = name.len() - 8;
+    eight_at(name, 0) == eight_at(other, 0) && eight_at(name, last) == eight_at(other, last)
+}
+
+/// The eight bytes of a name from a place on, as a number.
+fn eight_at(name: &[u8], place: usize) -> u64
+    requires { place + 8 ≤ length name.now }
+    ensures { to_le_bytes w64 result ≡ take 8 (drop place name.now) }
+{
+    u64::from_le_bytes(*name[place..].first_chunk().unwrap())
 }
 
 /// Puts an entry into a vacant slot, the one with a number if it is vacant. The result is the slot,

@@ -12,6 +12,7 @@ mod Shows
 mod Changed
 mod Laws
 mod Named
+mod Forbidden
 mod Lists
 mod Fitted
 mod Told

@@ -144,18 +144,31 @@ impl<T: Copy> Tree<T> {
         ensures begins { result.1 ≤ position }
         ensures ends { result.1 < length result.0.now }
     {
+        let (items, here) = self.items_at(position);
+        (&items[..], here)
+    }
+
+    /// The chunk that has the item at a position, and which of its items that is. (A slice in place
+    /// of the reference would be copied at each level.)
+    fn items_at(&self, position: usize) -> (&Vec<T>, usize)
+        requires { position < length self.now.items }
+        ensures chunk { take (length result.0.now.items)
+            (drop (position - result.1) self.now.items) ≡ result.0.now.items }
+        ensures begins { result.1 ≤ position }
+        ensures ends { result.1 < length result.0.now.items }
+    {
         match &self.root {
             Root::Empty => unreachable!(),
             Root::Fork(node) => {
                 let node: &Node<T> = node;
                 if position < node.before {
-                    return node.left.chunk_at(position);
+                    return node.left.items_at(position);
                 }
                 let here = position - node.before;
                 if here < node.items.len() {
-                    return (&node.items[..], here);
+                    return (&node.items, here);
                 }
-                node.right.chunk_at(here - node.items.len())
+                node.right.items_at(here - node.items.len())
             }
         }
     }
