@@ -368,8 +368,8 @@ fn copy(alloc: Global, entry: &DirectoryEntry) -> Result<DirectoryEntry, AllocEr
     ensures { IfOk result (λ e. entry_of e ≡ entry_of entry.now) }
 {
     Ok(DirectoryEntry {
-        fileid: entry.fileid,
+        fileid: Fileid(entry.fileid.0),
         name: entry.name.try_clone(alloc)?,
-        cookie: entry.cookie,
+        cookie: Cookie(entry.cookie.0),
     })
 }
