@@ -53,6 +53,15 @@ above-from low (x ∷ es) next cookie zero e h s l =
     all-above x.cookie (x ∷ es) next cookie (omega arith, h.1) (subst (λ (y : Listed). cookie < y.cookie) (sym same) l)
 above-from low (x ∷ es) next cookie (suc i) e h s l = above-from (x.cookie + 1) es next cookie i e h.1 s l
 
+-- behind an entry that isn't below it, all are
+pub above-behind : (low : ℕ) (es : List Listed) (next cookie i : ℕ) (e : Listed) → Rises low es next → slice_get es i ≡ Some e → cookie ≤ e.cookie
+    → above_cookie cookie (drop (suc i) es) ≡ drop (suc i) es
+above-behind low [] next cookie i e h s l = absurd (grind (arith, s))
+above-behind low (x ∷ es) next cookie zero e h s l =
+    let same : x ≡ e = grind (arith, s) in
+    let m : cookie ≤ x.cookie = subst (λ (y : Listed). cookie ≤ y.cookie) (sym same) l in all-above (x.cookie + 1) es next cookie h.1 (omega (arith, m))
+above-behind low (x ∷ es) next cookie (suc i) e h s l = above-behind (x.cookie + 1) es next cookie i e h.1 s l
+
 pub at-low : (low : ℕ) (es : List Listed) (next i : ℕ) (e : Listed) → Rises low es next → slice_get es i ≡ Some e → low ≤ e.cookie
 at-low low [] next i e h s = absurd (grind (arith, s))
 at-low low (x ∷ es) next zero e h s = let same : x ≡ e = grind (arith, s) in subst (λ (y : Listed). low ≤ y.cookie) same h.0

@@ -1,10 +1,11 @@
 -- Entries in slots, and their order.
 use Rattle.std.proofs.Common.{◌≡◌, refl, sym, subst, ◌∙◌, ap, ℕ, zero, suc, ◌+◌, ◌<◌, ◌≤◌, Bool, true, false, ◌==◌, ◌||◌}
-use Rattle.std.proofs.Common.{List, [], ◌∷◌, ◌++◌, length, Option, Some, None, is_some, get_or, slice_set, arith, if◌then◌else◌}
+use Rattle.std.proofs.Common.{List, [], ◌∷◌, ◌++◌, length, Option, Some, None, is_some, drop, get_or, slice_set, arith, if◌then◌else◌}
 use Rattle.std.specs.List.{AllByRecursion, slice_get, remove}
 use Rattle.std.proofs.lemmas.Bool.Decides.{nat_tests}
 use Rattle.std.proofs.lemmas.Option.{slice_get-get_or, get_or_from_slice_get}
 use Rattle.nfs_model.specs.Types.{Listed}
+use Rattle.nfs_model.specs.Serial.Readdir.{above_cookie}
 use Rattle.nfs_model.specs.volume.Directories.{DirectoryValue, Rises}
 use Rattle.directories.specs.Entries.{under, has, without, dropped, IsRising}
 use Rattle.directories.specs.Slots.{shown, in_slot, has_cookie, entry_or_none, in_order, is_one, IsOrdered, Becomes, PutInto}
@@ -13,7 +14,7 @@ use Rattle.directories.specs.declared.slot.Slot.TheVariants.{Filled}
 use Rattle.nfs_values.specs.Answer.{entry_of}
 use Rattle.nfs_values.specs.declared.answer.DirectoryEntry.{DirectoryEntry}
 use Rattle.directories.proofs.Orders.{all-at}
-use Rattle.directories.proofs.Places.{is-within}
+use Rattle.directories.proofs.Places.{is-within, above-entry}
 use Rattle.directories.proofs.Rising.{at-low, at-least, rises-push, rises-without, remove-at, under-is}
 
 -- ---- slots
@@ -291,6 +292,18 @@ position-guessed slots order next cookie i s h c l is = by (in_slot slots s) ref
     by None p t = absurd (grind (arith, t))
     by (Some e) p t =
         sym (slot-guessed slots order next cookie s h c) ∙ (sym p ∙ sym (element-at slots order i s e l is (sym p)))
+
+-- where the slot at a position has the entry of a cookie, those above the cookie are behind it
+pub behind-guessed : (slots : List Slot) (order : List ℕ) (next cookie i s : ℕ) → IsOrdered slots order next
+    → has_cookie (in_slot slots s) cookie ≡ true → i < length order → s ≡ get_or order i 0
+    → above_cookie cookie (in_order slots order) ≡ drop (i + 1) (in_order slots order)
+behind-guessed slots order next cookie i s h c l is = by (in_slot slots s) refl c
+  where
+    by : (o : Option Listed) → o ≡ in_slot slots s → has_cookie o cookie ≡ true
+        → above_cookie cookie (in_order slots order) ≡ drop (i + 1) (in_order slots order)
+    by None p t = absurd (grind (arith, t))
+    by (Some e) p t =
+        above-entry (in_order slots order) cookie i e (next, h.rising) (element-at slots order i s e l is (sym p)) (grind (arith, nat_tests, t))
 
 -- a position of an entry is in the order
 pub position-inside : (slots : List Slot) (order : List ℕ) (cookie i : ℕ) → has (in_order slots order) cookie ≡ true

@@ -176,7 +176,7 @@ impl Entries {
             ≡ page_behind (listed entries.old.items) (page self.now cookie.0 room)) }
         ensures err { OnErr result (0 < length (page self.now cookie.0 room).entries) }
     {
-        let after = position_after(&self.slots, &self.order, cookie);
+        let after = position_behind(&self.slots, &self.order, self.next, cookie);
         let remaining = self.order.len() - after;
         let before = entries.len();
         make_room(&self.slots, &self.order, after, room, entries)?;
@@ -215,6 +215,25 @@ fn position_from_end(slots: &[Slot], order: &Sequence<u32>, next: Cookie, cookie
         }
     }
     position_of(slots, order, cookie)
+}
+
+/// How many entries have a cookie at or below one. If its entry and all that came after it are
+/// there, it is as far from the end as the cookie is from the next one; else there is a search.
+fn position_behind(slots: &[Slot], order: &Sequence<u32>, next: Cookie, cookie: Cookie) -> usize
+    requires { IsOrdered slots.now order.now next.0 }
+    ensures within { result ≤ length order.now }
+    ensures after { let entries = in_order slots.now order.now in
+        above_cookie cookie.0 entries ≡ drop result entries }
+{
+    let behind = next.0.saturating_sub(cookie.0) as usize;
+    let guess = order.len().saturating_sub(behind);
+    if guess < order.len() {
+        let found = order.at(guess);
+        if holds(slots, found, cookie) {
+            return guess + 1;
+        }
+    }
+    position_after(slots, order, cookie)
 }
 
 /// The position in the order of the entry under a cookie that has one.
@@ -368,8 +387,8 @@ fn copy(alloc: Global, entry: &DirectoryEntry) -> Result<DirectoryEntry, AllocEr
     ensures { IfOk result (λ e. entry_of e ≡ entry_of entry.now) }
 {
     Ok(DirectoryEntry {
-        fileid: entry.fileid,
+        fileid: Fileid(entry.fileid.0),
         name: entry.name.try_clone(alloc)?,
-        cookie: entry.cookie,
+        cookie: Cookie(entry.cookie.0),
     })
 }

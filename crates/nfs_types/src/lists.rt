@@ -1,7 +1,7 @@
 //! Lists in results.
 
-ghost use Rattle.std.specs.Prelude.{◌≡◌, ◌+◌, ◌≤◌, ◌<◌, ◌^◌, ◌-◌, ◌++◌, length, map, replicate};
-ghost use Rattle.std.specs.Prelude.{take, true};
+ghost use Rattle.std.specs.Prelude.{◌≡◌, ◌+◌, ◌*◌, ◌≤◌, ◌<◌, ◌^◌, ◌-◌, ◌++◌, length, map};
+ghost use Rattle.std.specs.Prelude.{replicate, true};
 ghost use Rattle.std.specs.Prelude.{vec_len, vec_capacity};
 ghost use Rattle.std.specs.List.{flat_map};
 ghost use Rattle.xdr.specs.Shape.{Chain, Hyper, Word, padded, padding, spelling, word};
@@ -10,9 +10,9 @@ ghost use Rattle.nfs_values.specs.Answer.{entry_of, count_of};
 ghost use Rattle.nfs_types.specs.Results.{entry_shape, entry_value, readdir_shape, readdir_value};
 ghost use Rattle.nfs_types.specs.Results.{page_bytes, count_shape, count_value, census_shape};
 
-use crate::encode::{Encode, append, size_of_fixed, size_of_present, write_present};
+use crate::encode::{Encode, append, size_of_present, write_present};
 use nfs_values::answer::{DirectoryEntry, ReadDirectoryResults, VolumeCount};
-use nfs_values::{Attributes, Cookie, Fileid, Verifier};
+use nfs_values::{Attributes, Verifier};
 
 /// The most bytes of a name that is put together with what stands around it.
 const MOST_SHORT: usize = 32;
@@ -20,90 +20,128 @@ const MOST_SHORT: usize = 32;
 /// The most bytes of an entry with such a name and TRUE before it.
 const ITEM_SIZE: usize = 56;
 
+/// The bytes that are gathered at most before they are appended: 32 of such entries.
+const GATHERED_SIZE: usize = 1792;
+
+/// How many bytes the bytes of a name and their padding take.
+fn size_of_name(name: &[u8]) -> usize
+    requires { length (padded name.now) < 2 ^ 32 }
+    ensures { result ≡ length (padded name.now) }
+{
+    (name.len() + 3) / 4 * 4
+}
+
 impl Encode for DirectoryEntry {
     ghost shape = { entry_shape };
 
     ghost value = { λ e. entry_value (entry_of e) };
 
     fn size(&self) -> usize {
-        16 + self.name.size()
+        20 + size_of_name(self.name.as_bytes())
     }
 
     fn write(&self, out: &mut Vec<u8>) {
         let name = self.name.as_bytes();
-        append(out, &before_name(self.fileid, name.len() as u32)[4..]);
+        append(out, &before_name(self.fileid.0, name.len() as u32)[4..]);
         append(out, name);
         pad(out, name.len());
         self.cookie.write(out);
     }
 }
 
-/// Whether a name can be put together with what stands around it, and there is room for all.
-fn is_short(name: &[u8], out: &Vec<u8>) -> bool
+/// Whether an entry with this name can be put behind so many gathered bytes.
+fn has_place(name: &[u8], size: usize) -> bool
     ensures short { result ≡ true → length name.now ≤ 32 }
-    ensures room { result ≡ true → vec_len out.now + 56 ≤ vec_capacity out.now }
+    ensures place { result ≡ true → size + 56 ≤ 1792 }
 {
-    name.len() <= MOST_SHORT && out.capacity() - out.len() >= ITEM_SIZE
+    name.len() <= MOST_SHORT && size <= GATHERED_SIZE - ITEM_SIZE
 }
 
 /// What stands before the bytes of an entry's name: TRUE, its fileid, and how many they are.
-fn before_name(fileid: Fileid, size: u32) -> [u8; 16]
-    ensures { result ≡ word 1 ++ (spelling Hyper fileid.0 ++ spelling Word size) }
+fn before_name(fileid: u64, size: u32) -> [u8; 16]
+    ensures { result ≡ word 1 ++ (spelling Hyper fileid ++ spelling Word size) }
 {
     let mut before = [0; 16];
     before[..4].copy_from_slice(&1u32.to_be_bytes());
-    before[4..12].copy_from_slice(&fileid.0.to_be_bytes());
+    before[4..12].copy_from_slice(&fileid.to_be_bytes());
     before[12..].copy_from_slice(&size.to_be_bytes());
     before
 }
 
+/// Puts a short name in the place of the first zeros.
+fn put_name(bytes: &mut [u8], name: &[u8])
+    requires zeros { bytes.old ≡ replicate 40 0 }
+    requires short { length name.now ≤ 32 }
+    ensures { bytes.new ≡ name.now ++ replicate (40 - length name.now) 0 }
+{
+    if name.len() > 16 {
+        return put_ends::<16>(bytes, name);
+    }
+    if name.len() > 8 {
+        return put_ends::<8>(bytes, name);
+    }
+    if name.len() >= 4 {
+        return put_ends::<4>(bytes, name);
+    }
+    bytes[..name.len()].copy_from_slice(name);
+}
+
+/// Puts a name of N to 2 N bytes in the place of the first zeros: its first N bytes and its last N,
+/// so that a known number is copied.
+fn put_ends<const N: usize>(bytes: &mut [u8], name: &[u8])
+    requires zeros { bytes.old ≡ replicate 40 0 }
+    requires short { length name.now ≤ 32 }
+    requires from { N ≤ length name.now }
+    requires to { length name.now ≤ 2 * N }
+    ensures { bytes.new ≡ name.now ++ replicate (40 - length name.now) 0 }
+{
+    let start = name.len() - N;
+    bytes[..N].copy_from_slice(&array_of::<N>(&name[..N]));
+    bytes[start..start + N].copy_from_slice(&array_of::<N>(&name[start..]));
+}
+
+/// These N bytes.
+fn array_of<const N: usize>(bytes: &[u8]) -> [u8; N]
+    requires { length bytes.now ≡ N }
+    ensures { result ≡ bytes.now }
+{
+    let mut array = [0; N];
+    array.copy_from_slice(bytes);
+    array
+}
+
 /// Puts TRUE and an entry with a short name in the place of zeros.
-fn put_item(bytes: &mut [u8; ITEM_SIZE], fileid: Fileid, name: &[u8], cookie: Cookie)
+fn put_item(bytes: &mut [u8], fileid: u64, name: &[u8], cookie: u64)
     requires zeros { bytes.old ≡ replicate 56 0 }
     requires short { length name.now ≤ 32 }
-    ensures { bytes.new ≡ word 1 ++ (spelling entry_shape (fileid.0, (name.now, cookie.0))
+    ensures { bytes.new ≡ word 1 ++ (spelling entry_shape (fileid, (name.now, cookie))
         ++ replicate (32 - length (padded name.now)) 0) }
 {
     bytes[..16].copy_from_slice(&before_name(fileid, name.len() as u32));
-    bytes[16..16 + name.len()].copy_from_slice(name);
-    let end = 16 + size_of_fixed(name);
-    bytes[end..end + 8].copy_from_slice(&cookie.0.to_be_bytes());
+    put_name(&mut bytes[16..], name);
+    let end = 16 + size_of_name(name);
+    bytes[end..end + 8].copy_from_slice(&cookie.to_be_bytes());
 }
 
-/// Appends the first of these bytes. There is room for all, so that a known number is copied.
-fn append_first(out: &mut Vec<u8>, bytes: &[u8], count: usize)
-    requires room { vec_len out.old + length bytes.now ≤ vec_capacity out.old }
-    requires within { count ≤ length bytes.now }
-    ensures items { out.new.items ≡ out.old.items ++ take count bytes.now }
-    ensures capacity { vec_capacity out.old ≤ vec_capacity out.new }
-{
-    let start = out.len();
-    append(out, bytes);
-    out.truncate(start + count);
-}
-
-/// Appends an entry behind TRUE, for which there is room.
-fn write_item(entry: &DirectoryEntry, out: &mut Vec<u8>)
+/// Appends bytes, and an entry behind TRUE, for which there is room. Rarely called, and so no part
+/// of the loop that gathers.
+#[inline(never)]
+fn write_behind(bytes: &[u8], entry: &DirectoryEntry, out: &mut Vec<u8>)
     requires short { length (spelling entry_shape (entry_value (entry_of entry.now))) < 2 ^ 32 }
-    requires room { vec_len out.old
-        + (4 + length (spelling entry_shape (entry_value (entry_of entry.now))))
+    requires room { vec_len out.old + (length bytes.now
+        + (4 + length (spelling entry_shape (entry_value (entry_of entry.now)))))
         ≤ vec_capacity out.old }
-    ensures items { out.new.items
-        ≡ out.old.items ++ (word 1 ++ spelling entry_shape (entry_value (entry_of entry.now))) }
+    ensures items { out.new.items ≡ out.old.items ++ (bytes.now
+        ++ (word 1 ++ spelling entry_shape (entry_value (entry_of entry.now)))) }
     ensures capacity { vec_capacity out.old ≤ vec_capacity out.new }
 {
-    let name = entry.name.as_bytes();
-    if is_short(name, out) {
-        let mut item = [0; ITEM_SIZE];
-        put_item(&mut item, entry.fileid, name, entry.cookie);
-        append_first(out, &item, 24 + size_of_fixed(name));
-        return;
-    }
+    append(out, bytes);
     true.write(out);
     entry.write(out);
 }
 
-/// Appends the entries of a list, each behind TRUE, for which there is room.
+/// Appends the entries of a list, each behind TRUE, for which there is room. Those with short names
+/// are gathered first.
 fn write_items(entries: &[DirectoryEntry], out: &mut Vec<u8>)
     requires short { length (spelling (Chain entry_shape)
         (map (λ e. entry_value (entry_of e)) entries.now)) < 2 ^ 32 }
@@ -116,9 +154,21 @@ fn write_items(entries: &[DirectoryEntry], out: &mut Vec<u8>)
         (map (λ e. entry_value (entry_of e)) entries.now) }
     ensures capacity { vec_capacity out.old ≤ vec_capacity out.new }
 {
+    let mut gathered = [0; GATHERED_SIZE];
+    let mut size = 0;
     for entry in entries {
-        write_item(entry, out);
+        let name = entry.name.as_bytes();
+        if has_place(name, size) {
+            let place = &mut gathered[size..size + ITEM_SIZE];
+            put_item(place, entry.fileid.0, name, entry.cookie.0);
+            size += 24 + size_of_name(name);
+        } else {
+            write_behind(&gathered[..size], entry, out);
+            gathered = [0; GATHERED_SIZE];
+            size = 0;
+        }
     }
+    append(out, &gathered[..size]);
     false.write(out);
 }
 
