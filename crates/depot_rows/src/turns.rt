@@ -133,7 +133,7 @@ fn add(desk: &mut Counters, worker: usize, number: u64) -> Option<u64>
     requires fresh { MayPutBack (books desk.old) worker }
     ensures kept { IsKept desk.new }
 {
-    match desk.work(worker, Adder { number }) {
+    match desk.work(worker, Adder { number }, &mut ()) {
         Some(sum) => {
             finish(desk, worker, &Change::Add(number), sum);
             Some(sum)

@@ -54,14 +54,19 @@ impl<M: Machine, K: NodeKinds<M::Parcel>> Desk<M, K> {
     }
 
     /// Does a task on what a worker was lent.
-    pub fn work<W: Task<M::Parcel, K>>(&mut self, worker: usize, task: W) -> W::Output
+    pub fn work<W: Task<M::Parcel, K>>(
+        &mut self,
+        worker: usize,
+        task: W,
+        place: &mut W::Place,
+    ) -> W::Output
         requires kept { IsKept self.old }
         requires may { MayWork (W.asks task) (books self.old) worker }
         ensures kept { IsKept self.new }
-        ensures worked { HasWorked (W.does task) (books self.old) worker result
+        ensures worked { HasWorked (W.does task) (books self.old) worker (result, place.new)
             (books self.new) }
     {
-        work_in::<M::Parcel, K, W>(self.depot.layout(), &mut self.slots[worker], task)
+        work_in::<M::Parcel, K, W>(self.depot.layout(), &mut self.slots[worker], task, place)
     }
 
     /// Ends a worker's call by an entry of the history, with its parcels as they are.

@@ -24,13 +24,14 @@ pub trait TaskNode<T: HasKind, K: NodeKinds<T>>: Node<T> {
         layout: &Layout,
         affinity: Affinity,
         held: &mut Self::Held,
+        place: &mut W::Place,
     ) -> W::Output
         requires node { IsNode (layout_of layout.now) (affinity_of affinity) }
         requires exact { HasAll T.kind Self.parcels layout.now affinity held.old }
         requires asks { Finds (W.asks task) Self.parcels layout.now affinity held.old }
         ensures exact { HasAll T.kind Self.parcels layout.now affinity held.new }
         ensures does { Leaves (W.does task) Self.parcels layout.now affinity
-            held.old result held.new };
+            held.old (result, place.new) held.new };
 }
 
 impl<F: Family> TaskNode<Parcel<F>, ParcelKinds> for StripeNode {
@@ -39,8 +40,9 @@ impl<F: Family> TaskNode<Parcel<F>, ParcelKinds> for StripeNode {
         layout: &Layout,
         affinity: Affinity,
         held: &mut StripeHeld<F>,
+        place: &mut W::Place,
     ) -> W::Output {
-        task.on_stripe(layout, affinity, held)
+        task.on_stripe(layout, affinity, held, place)
     }
 }
 
@@ -50,8 +52,9 @@ impl<F: Family> TaskNode<Parcel<F>, ParcelKinds> for LogicalNode {
         layout: &Layout,
         affinity: Affinity,
         held: &mut LogicalHeld<F>,
+        place: &mut W::Place,
     ) -> W::Output {
-        task.on_logical(layout, affinity, held)
+        task.on_logical(layout, affinity, held, place)
     }
 }
 
@@ -61,8 +64,9 @@ impl<F: Family> TaskNode<Parcel<F>, ParcelKinds> for VolumeNode {
         layout: &Layout,
         affinity: Affinity,
         held: &mut VolumeHeld<F>,
+        place: &mut W::Place,
     ) -> W::Output {
-        task.on_volume(layout, affinity, held)
+        task.on_volume(layout, affinity, held, place)
     }
 }
 
@@ -72,8 +76,9 @@ impl<F: Family> TaskNode<Parcel<F>, ParcelKinds> for AggregateNode {
         layout: &Layout,
         affinity: Affinity,
         held: &mut AggrHeld<F>,
+        place: &mut W::Place,
     ) -> W::Output {
-        task.on_aggregate(layout, affinity, held)
+        task.on_aggregate(layout, affinity, held, place)
     }
 }
 
@@ -83,8 +88,9 @@ impl<F: Family> TaskNode<Parcel<F>, ParcelKinds> for SerialNode {
         layout: &Layout,
         affinity: Affinity,
         held: &mut SerialHeld<F>,
+        place: &mut W::Place,
     ) -> W::Output {
-        task.on_serial(layout, affinity, held)
+        task.on_serial(layout, affinity, held, place)
     }
 }
 
@@ -93,6 +99,7 @@ pub fn work_node<T: HasKind, K: NodeKinds<T>, N: TaskNode<T, K>, W: Task<T, K>>(
     layout: &Layout,
     node: &mut NodeGrant<T, N>,
     task: W,
+    place: &mut W::Place,
 ) -> W::Output
     requires node { let L = layout_of layout.now in IsNode L (node_lent L node.old).affinity }
     requires whole { let L = layout_of layout.now in
@@ -102,8 +109,8 @@ pub fn work_node<T: HasKind, K: NodeKinds<T>, N: TaskNode<T, K>, W: Task<T, K>>(
     ensures whole { let L = layout_of layout.now in
         IsWhole T.kind L (node_lent L node.new) }
     ensures done { let L = layout_of layout.now in
-        IsDone (W.does task) L (node_lent L node.old) result (node_lent L node.new) }
+        IsDone (W.does task) L (node_lent L node.old) (result, place.new) (node_lent L node.new) }
 {
     let affinity = node.grant.affinity();
-    N::work::<W>(task, layout, affinity, node.grant.held())
+    N::work::<W>(task, layout, affinity, node.grant.held(), place)
 }

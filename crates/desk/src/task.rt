@@ -11,15 +11,19 @@ use affinity::{Affinity, HasKind, Layout};
 use parcels::Node;
 
 /// Work on the parcels of a node, by a method for each kind of node at which calls run. It changes
-/// parcels and takes none away.
+/// parcels and takes none away. What it comes to is a result and what it leaves in a place, where
+/// large values needn't be moved.
 pub trait Task<T: HasKind, K: NodeKinds<T>> {
     type Output;
+
+    /// What it leaves in a place.
+    type Place;
 
     // What it needs of the layout, the affinity and its parcels.
     ghost asks: { Self → Asks T };
 
     // Of the layout, the affinity, its parcels before, what comes of it, and its parcels after.
-    ghost does: { Self → DoesTask T Self.Output };
+    ghost does: { Self → DoesTask T (Self.Output × Self.Place) };
 
     /// Works on the parcels of a stripe.
     fn on_stripe(
@@ -27,13 +31,14 @@ pub trait Task<T: HasKind, K: NodeKinds<T>> {
         layout: &Layout,
         affinity: Affinity,
         held: &mut <K::Stripe as Node<T>>::Held,
+        place: &mut Self::Place,
     ) -> Self::Output
         requires node { IsNode (layout_of layout.now) (affinity_of affinity) }
         requires exact { HasAll T.kind K.Stripe.parcels layout.now affinity held.old }
         requires asks { Finds (asks self) K.Stripe.parcels layout.now affinity held.old }
         ensures exact { HasAll T.kind K.Stripe.parcels layout.now affinity held.new }
         ensures does { Leaves (does self) K.Stripe.parcels layout.now affinity
-            held.old result held.new };
+            held.old (result, place.new) held.new };
 
     /// Works on the parcels of a volume's names and attributes.
     fn on_logical(
@@ -41,13 +46,14 @@ pub trait Task<T: HasKind, K: NodeKinds<T>> {
         layout: &Layout,
         affinity: Affinity,
         held: &mut <K::Logical as Node<T>>::Held,
+        place: &mut Self::Place,
     ) -> Self::Output
         requires node { IsNode (layout_of layout.now) (affinity_of affinity) }
         requires exact { HasAll T.kind K.Logical.parcels layout.now affinity held.old }
         requires asks { Finds (asks self) K.Logical.parcels layout.now affinity held.old }
         ensures exact { HasAll T.kind K.Logical.parcels layout.now affinity held.new }
         ensures does { Leaves (does self) K.Logical.parcels layout.now affinity
-            held.old result held.new };
+            held.old (result, place.new) held.new };
 
     /// Works on the parcels of a volume.
     fn on_volume(
@@ -55,13 +61,14 @@ pub trait Task<T: HasKind, K: NodeKinds<T>> {
         layout: &Layout,
         affinity: Affinity,
         held: &mut <K::Volume as Node<T>>::Held,
+        place: &mut Self::Place,
     ) -> Self::Output
         requires node { IsNode (layout_of layout.now) (affinity_of affinity) }
         requires exact { HasAll T.kind K.Volume.parcels layout.now affinity held.old }
         requires asks { Finds (asks self) K.Volume.parcels layout.now affinity held.old }
         ensures exact { HasAll T.kind K.Volume.parcels layout.now affinity held.new }
         ensures does { Leaves (does self) K.Volume.parcels layout.now affinity
-            held.old result held.new };
+            held.old (result, place.new) held.new };
 
     /// Works on the parcels of an aggregate.
     fn on_aggregate(
@@ -69,13 +76,14 @@ pub trait Task<T: HasKind, K: NodeKinds<T>> {
         layout: &Layout,
         affinity: Affinity,
         held: &mut <K::Aggregate as Node<T>>::Held,
+        place: &mut Self::Place,
     ) -> Self::Output
         requires node { IsNode (layout_of layout.now) (affinity_of affinity) }
         requires exact { HasAll T.kind K.Aggregate.parcels layout.now affinity held.old }
         requires asks { Finds (asks self) K.Aggregate.parcels layout.now affinity held.old }
         ensures exact { HasAll T.kind K.Aggregate.parcels layout.now affinity held.new }
         ensures does { Leaves (does self) K.Aggregate.parcels layout.now affinity
-            held.old result held.new };
+            held.old (result, place.new) held.new };
 
     /// Works on the parcels of the whole tree.
     fn on_serial(
@@ -83,11 +91,12 @@ pub trait Task<T: HasKind, K: NodeKinds<T>> {
         layout: &Layout,
         affinity: Affinity,
         held: &mut <K::Serial as Node<T>>::Held,
+        place: &mut Self::Place,
     ) -> Self::Output
         requires node { IsNode (layout_of layout.now) (affinity_of affinity) }
         requires exact { HasAll T.kind K.Serial.parcels layout.now affinity held.old }
         requires asks { Finds (asks self) K.Serial.parcels layout.now affinity held.old }
         ensures exact { HasAll T.kind K.Serial.parcels layout.now affinity held.new }
         ensures does { Leaves (does self) K.Serial.parcels layout.now affinity
-            held.old result held.new };
+            held.old (result, place.new) held.new };
 }

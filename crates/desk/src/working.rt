@@ -20,6 +20,7 @@ fn work_small<T: HasKind, K: NodeKinds<T>, W: Task<T, K>>(
     layout: &Layout,
     grant: &mut SmallGrant<T, K>,
     task: W,
+    place: &mut W::Place,
 ) -> W::Output
     requires node { let L = layout_of layout.now in IsNode L (small_lent grant.old L).affinity }
     requires whole { let L = layout_of layout.now in
@@ -29,20 +30,21 @@ fn work_small<T: HasKind, K: NodeKinds<T>, W: Task<T, K>>(
     ensures whole { let L = layout_of layout.now in
         IsWhole T.kind L (small_lent grant.new L) }
     ensures done { let L = layout_of layout.now in
-        IsDone (W.does task) L (small_lent grant.old L) result (small_lent grant.new L) }
+        IsDone (W.does task) L (small_lent grant.old L) (result, place.new)
+        (small_lent grant.new L) }
 {
     match grant {
         SmallGrant::Stripe(node) => {
             let affinity = node.grant.affinity();
-            task.on_stripe(layout, affinity, node.grant.held())
+            task.on_stripe(layout, affinity, node.grant.held(), place)
         }
         SmallGrant::Logical(node) => {
             let affinity = node.grant.affinity();
-            task.on_logical(layout, affinity, node.grant.held())
+            task.on_logical(layout, affinity, node.grant.held(), place)
         }
         SmallGrant::Volume(node) => {
             let affinity = node.grant.affinity();
-            task.on_volume(layout, affinity, node.grant.held())
+            task.on_volume(layout, affinity, node.grant.held(), place)
         }
     }
 }
@@ -52,6 +54,7 @@ fn work_large<T: HasKind, K: NodeKinds<T>, W: Task<T, K>>(
     layout: &Layout,
     grant: &mut LargeGrant<T, K>,
     task: W,
+    place: &mut W::Place,
 ) -> W::Output
     requires node { let L = layout_of layout.now in IsNode L (large_lent grant.old L).affinity }
     requires whole { let L = layout_of layout.now in
@@ -61,16 +64,17 @@ fn work_large<T: HasKind, K: NodeKinds<T>, W: Task<T, K>>(
     ensures whole { let L = layout_of layout.now in
         IsWhole T.kind L (large_lent grant.new L) }
     ensures done { let L = layout_of layout.now in
-        IsDone (W.does task) L (large_lent grant.old L) result (large_lent grant.new L) }
+        IsDone (W.does task) L (large_lent grant.old L) (result, place.new)
+        (large_lent grant.new L) }
 {
     match grant {
         LargeGrant::Aggregate(node) => {
             let affinity = node.grant.affinity();
-            task.on_aggregate(layout, affinity, node.grant.held())
+            task.on_aggregate(layout, affinity, node.grant.held(), place)
         }
         LargeGrant::Serial(node) => {
             let affinity = node.grant.affinity();
-            task.on_serial(layout, affinity, node.grant.held())
+            task.on_serial(layout, affinity, node.grant.held(), place)
         }
     }
 }
@@ -80,6 +84,7 @@ pub(crate) fn work_in<T: HasKind, K: NodeKinds<T>, W: Task<T, K>>(
     layout: &Layout,
     slot: &mut Slot<T, K>,
     task: W,
+    place: &mut W::Place,
 ) -> W::Output
     requires node { let L = layout_of layout.now in IsSomeAnd (granted slot.old) (λ lends.
         IsNode L (lends L).affinity) }
@@ -89,10 +94,11 @@ pub(crate) fn work_in<T: HasKind, K: NodeKinds<T>, W: Task<T, K>>(
         W.asks task L (lends L).affinity (lends L).parcels) }
     ensures done { let L = layout_of layout.now in IsSomeAnd (granted slot.old) (λ before.
         (after : trees.Layout → Lent T) × (granted slot.new ≡ Some after)
-        × IsWhole T.kind L (after L) × IsDone (W.does task) L (before L) result (after L)) }
+        × IsWhole T.kind L (after L)
+        × IsDone (W.does task) L (before L) (result, place.new) (after L)) }
 {
     match &mut slot.small {
-        Some(grant) => work_small::<T, K, W>(layout, grant, task),
-        None => work_large::<T, K, W>(layout, slot.large.as_mut().unwrap(), task),
+        Some(grant) => work_small::<T, K, W>(layout, grant, task, place),
+        None => work_large::<T, K, W>(layout, slot.large.as_mut().unwrap(), task, place),
     }
 }

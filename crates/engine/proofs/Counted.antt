@@ -108,9 +108,9 @@ module _ {P C R : Type 0} where
       inner e = cc
 
   -- a worker that counts has the parcels that it had
-  pub counted-same : (counts : List VolumeCounts) (b : FilerBooks P C R) (i : ℕ) (new : Vec VolumeCounts) (c : FilerBooks P C R)
-      → HasWorked (HasCounted counts) b i new c → c ≡ b
-  counted-same counts b i new c h =
+  pub counted-same : {O : Type 0} (counts : List VolumeCounts) (b : FilerBooks P C R) (i : ℕ) (came : Vec VolumeCounts × O) (c : FilerBooks P C R)
+      → HasWorked (λ layout node before (x : Vec VolumeCounts × O) after. HasCounted counts layout node before x.0 after) b i came c → c ≡ b
+  counted-same counts b i came c h =
       let same : h.parcels ≡ h.lent.parcels = λ j k. h.did.0 k j in
       h.books
       ∙ (λ j. record b {

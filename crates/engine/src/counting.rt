@@ -34,7 +34,7 @@ pub(crate) fn recount(
     ensures counted { IsRecounted (books desk.old) worker counts.old.items counts.new.items }
 {
     let before = mem::replace(counts, Vec::new(alloc));
-    *counts = desk.work(worker, Tally { counts: before });
+    *counts = desk.work(worker, Tally { counts: before }, &mut ());
 }
 
 /// How many blocks came into a hand, or left it.

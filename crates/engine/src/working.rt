@@ -19,7 +19,7 @@ use crate::state::State;
 use crate::worker::{Running, WorkerRun, set_run, take_run};
 use desk::{Desk, ParcelKinds};
 use rpc_msg::{replies_fit, servers_are_roomy};
-use service::{Outcome, Run, Service};
+use service::{Outcome, Run, Service, outcome_with, starved};
 use std::alloc::Global;
 
 /// What is told of work that came to this.
@@ -66,9 +66,10 @@ fn run_on(
         moment: running.moment,
         ahead: None,
     };
-    let outcome = desk.work(worker, call);
+    let mut told = starved();
+    let ended = desk.work(worker, call, &mut told);
     recount(alloc, desk, counts, worker);
-    outcome
+    outcome_with(ended, told)
 }
 
 /// Works the message that a worker has begun, on what it was lent.

@@ -16,8 +16,8 @@ use Rattle.service.specs.declared.outcome.Outcome.{Outcome}
 use Rattle.service.specs.declared.outcome.Outcome.TheVariants as outcomes
 use Rattle.service.specs.Running.{HasRunCall}
 use Rattle.granted_calls.specs.Messages.{Message}
-use Rattle.granted_calls.specs.declared.granted.Ended.{Ended}
-use Rattle.granted_calls.specs.declared.granted.Ended.TheVariants as ends
+use Rattle.service.specs.declared.outcome.Ended.{Ended}
+use Rattle.service.specs.declared.outcome.Ended.TheVariants as ends
 use Rattle.granted_calls.specs.Runs.{FilerLent, HasRunFrom, HasTold}
 
 -- the call and the caller are the message's, and the layout is the filer's

@@ -19,7 +19,7 @@ use crate::granted::begin_on;
 use crate::linking::{Link, Tried, end_on, has_eight, link_on, try_on};
 use crate::shared::Filer;
 use crate::shared_waiting::{Pass, SharedWaiting};
-use crate::telling::{forget, starved};
+use crate::telling::forget;
 use crate::turned::Gate;
 use affinity::{CallNode, Layout};
 use depot::{GrantRefusal, Seat};
@@ -28,7 +28,7 @@ use filer_state::Files;
 use nfs_values::{Moment, Reply};
 use parcels::{AggregateNode, LogicalNode, Parcel, SerialNode, StripeNode, VolumeNode};
 use rpc_msg::{HandleForm, replies_fit, servers_are_roomy};
-use service::Service;
+use service::{Service, starved};
 use std::sync::Wait;
 
 /// What is kept of messages that were tried one after the other, and what came of them.

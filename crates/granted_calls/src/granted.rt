@@ -9,13 +9,13 @@ ghost use Rattle.parcels.specs.Exact.{kind_in};
 ghost use Rattle.affinity.specs.Affinity.{call_affinity, call_node};
 ghost use Rattle.granted_calls.specs.Messages.{IsPlaced};
 ghost use Rattle.granted_calls.specs.Moments.{RunsAt};
-ghost use Rattle.granted_calls.specs.Runs.{HasRunTo, HasRunInto, IsLentFor};
+ghost use Rattle.granted_calls.specs.Runs.{HasRunTo, HasRunInto, HasTold, IsLentFor};
 ghost use Rattle.granted_calls.specs.Served.{filer_behaviour};
 ghost use Rattle.granted_calls.specs.Filers.{layout_in};
+ghost use Rattle.service.specs.Running.{outcome_with};
 
 use crate::envelope::Envelope;
 use crate::shared::Filer;
-use crate::telling::{tell, tell_starved};
 use crate::turned::{Gate, Place, Stage};
 use affinity::CallNode;
 use depot::{GrantRefusal, Seat};
@@ -24,7 +24,7 @@ use filer_state::Files;
 use nfs_values::{Moment, Reply};
 use parcels::Parcel;
 use scheduler::Origin;
-use service::{Outcome, Run, Service};
+use service::{Ended, Run, Service, tell_starved};
 
 /// The call of a record at a stage.
 pub(crate) fn place_of(origin: Origin, stage: Stage) -> Place {
@@ -42,15 +42,15 @@ pub(crate) struct Ran<G, O> {
     pub(crate) moment: Moment,
 }
 
-/// What a call came to that ran: an `Outcome` whose reply was put elsewhere.
-#[derive(Clone, Copy)]
-pub(crate) enum Ended {
-    /// Its reply was told.
-    Replied,
-    /// Memory ran out, and that was told.
-    Starved,
-    /// It has to run on this node.
-    Moved(CallNode),
+/// Tells that memory ran out, where a run ended so; else what is told stays.
+fn tell_ended(ended: Ended, told: &mut Reply)
+    ensures { HasTold (outcome_with ended told.old) ended told.new }
+{
+    match ended {
+        Ended::Replied => {}
+        Ended::Starved => tell_starved(told),
+        Ended::Moved(_) => {}
+    }
 }
 
 /// Runs the call of a message on what was granted of what it tries, and tells its reply.
@@ -79,22 +79,10 @@ pub(crate) fn run_on<N: TaskNode<Parcel<Files>, ParcelKinds>, G: Gate>(
         ahead: gate.ahead(),
     };
     let layout = filer.depot.layout();
-    match work_node::<Parcel<Files>, ParcelKinds, N, Run>(layout, grant, run) {
-        Outcome::Replied(reply) => {
-            tell(told, reply);
-            gate.pass(place);
-            Ended::Replied
-        }
-        Outcome::Starved => {
-            tell_starved(told);
-            gate.pass(place);
-            Ended::Starved
-        }
-        Outcome::Moved(affinity) => {
-            gate.pass(place);
-            Ended::Moved(affinity)
-        }
-    }
+    let ended = work_node::<Parcel<Files>, ParcelKinds, N, Run>(layout, grant, run, told);
+    tell_ended(ended, told);
+    gate.pass(place);
+    ended
 }
 
 /// Begins the call of a message on what it tries, a node of this kind, and runs it there, at this

@@ -22,7 +22,7 @@ use crate::chained::{AnswerSink, Hint};
 use crate::entered_call::EnteredCall;
 use crate::entering::{Entry, answered, enter};
 use crate::envelope::Envelope;
-use crate::granted::{Ended, place_of, run_on};
+use crate::granted::{place_of, run_on};
 use crate::shared::Filer;
 use crate::shared_waiting::{Pass, SharedWaiting};
 use crate::turned::{Gate, Stage};
@@ -33,7 +33,7 @@ use filer_state::Files;
 use nfs_values::{Moment, Reply};
 use parcels::{Node, Parcel};
 use rpc_msg::{HandleForm, replies_fit, servers_are_roomy};
-use service::Service;
+use service::{Ended, Service};
 use std::sync::Wait;
 
 /// What came of a message under a grant that is still open.

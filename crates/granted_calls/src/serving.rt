@@ -23,10 +23,9 @@ use crate::answer::Answer;
 use crate::entered_call::EnteredCall;
 use crate::entering::{answered, enter};
 use crate::envelope::Envelope;
-use crate::granted::{Ended, Ran, place_of, run};
+use crate::granted::{Ran, place_of, run};
 use crate::linking::has_eight;
 use crate::shared::Filer;
-use crate::telling::starved;
 use crate::turned::{Gate, Served, Stage};
 use affinity::CallNode;
 use depot::Seat;
@@ -35,7 +34,7 @@ use filer_state::Files;
 use nfs_values::{Moment, Reply};
 use parcels::{AggregateNode, LogicalNode, Node, Parcel, SerialNode, StripeNode, VolumeNode};
 use rpc_msg::{HandleForm, replies_fit, servers_are_roomy};
-use service::Service;
+use service::{Ended, Service, starved};
 
 /// Ends a message's call by its entry, and answers it.
 fn answer<N: Node<Parcel<Files>>, G: Gate>(

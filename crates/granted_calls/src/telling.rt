@@ -16,31 +16,6 @@ fn is_large(told: &Reply) -> bool {
     }
 }
 
-/// What is told where memory ran out.
-pub(crate) fn starved() -> Reply
-    ensures { result ≡ Refused SystemError }
-{
-    Reply::Refused(Refusal::SystemError)
-}
-
-/// Tells a reply in place of what was told before.
-pub(crate) fn tell(told: &mut Reply, reply: Reply)
-    ensures { told.new ≡ reply }
-{
-    if is_large(told) {
-        tell_starved(told);
-    }
-    mem::forget(mem::replace(told, reply));
-}
-
-/// Tells that memory ran out, in place of what was told before.
-#[inline(never)]
-pub(crate) fn tell_starved(told: &mut Reply)
-    ensures { told.new ≡ Refused SystemError }
-{
-    *told = starved();
-}
-
 /// Drops what was told.
 pub(crate) fn forget(told: Reply) {
     if is_large(&told) {

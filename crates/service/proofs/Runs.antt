@@ -30,6 +30,11 @@ use Rattle.service.specs.renames.Promises.{Renames, renaming_outcome}
 use Rattle.service.specs.totals.FilesystemStatus.{TellsFilesystemStatus}
 use Rattle.service.specs.Running.{fileid_in, allowed_named, effect_named, call_of_node, call_on}
 
+-- a run as it is told
+pub as-told : {S : Type 0} {v : ℕ} {lens : Lens VolumeContents S} {q : VolumeCall} {old new : S} {o x : works.Outcome} → o ≡ x
+    → RunsOn v lens q old x new → RunsOn v lens q old o new
+as-told {S} {v} {lens} {q} {old} {new} is = subst (λ (y : works.Outcome). RunsOn v lens q old y new) (sym is)
+
 -- an entry of a call is its run
 pub served-runs : (v : ℕ) (c : VolumeCall) (old new : LogicalSet) (answer : types.Answer)
     → RightOnVolume v logical_lens (ServesOn c false) [] [] old (jobs.Replied (types.Success answer)) new

@@ -40,6 +40,7 @@ use Rattle.affinity.specs.Tree.{IsNode}
 use Rattle.nfs_values.specs.Call.{call_of}
 use Rattle.nfs_values.specs.Reply.{reply_of}
 use Rattle.nfs_values.specs.declared.call.Call.{Call}
+use Rattle.nfs_values.specs.declared.reply.Reply.{Reply}
 use Rattle.nfs_values.specs.declared.call.Call.TheVariants.{GetAttributes, Lookup, CheckAccess, ReadLink, Read, ReadDirectory, ReadDirectoryPlus, FilesystemInfo}
 use Rattle.nfs_values.specs.declared.call.Call.TheVariants.{PathConfiguration, Commit, MountBelow}
 use Rattle.nfs_model.specs.volume.Stripes.{StripeValue}
@@ -48,6 +49,8 @@ use Rattle.filer_state.specs.state.Parcels.{FilerParcel}
 use Rattle.filer_state.specs.state.Running.{HasFiler, Runs}
 use Rattle.service.specs.declared.outcome.Outcome.{Outcome}
 use Rattle.service.specs.declared.outcome.Outcome.TheVariants.{Replied, Starved, Moved}
+use Rattle.service.specs.declared.outcome.Ended.{Ended}
+use Rattle.service.specs.declared.outcome.Ended.TheVariants as ends
 
 -- ---- what comes of it
 
@@ -55,6 +58,15 @@ abbrev pub outcome_of : Outcome → works.Outcome
 outcome_of (Replied reply) = works.Replied (reply_of reply)
 outcome_of Starved = works.Starved
 outcome_of (Moved home) = works.Moved (call_node home)
+
+-- what a run came to that ended so, whose reply, if there is one, is this
+abbrev pub outcome_with : Ended → Reply → Outcome
+outcome_with ends.Replied told = Replied told
+outcome_with ends.Starved told = Starved
+outcome_with (ends.Moved home) told = Moved home
+
+abbrev pub outcome_told : Ended → Reply → works.Outcome
+outcome_told ended told = outcome_of (outcome_with ended told)
 
 -- what is remembered after an outcome of a call
 abbrev pub memos_left : Caller → types.Call → Moment → works.Outcome → List (Option Memo) → List (Option Memo)

@@ -20,10 +20,10 @@ ghost use Rattle.filer_state.specs.state.Running.{RunsOn, UnlessReplied};
 ghost use Rattle.filer_state.specs.state.Sets.{logical_before, logical_after};
 ghost use Rattle.service.specs.renames.NamePromises.{linking_outcome, making_outcome};
 ghost use Rattle.service.specs.renames.Promises.{renaming_outcome};
-ghost use Rattle.service.specs.Running.{allowed_named, outcome_of};
+ghost use Rattle.service.specs.Running.{allowed_named, outcome_told};
 
 use crate::named::fileid_of;
-use crate::outcome::{Outcome, outcome_written};
+use crate::outcome::{Ended, tell, tell_written};
 use crate::renames::{EntryName, rename};
 use crate::task::Run;
 use affinity::Layout;
@@ -55,21 +55,22 @@ pub(crate) fn set_attributes_here(
     handle: &FileHandle,
     set: &SetAttributes,
     guard: Option<Moment>,
-) -> Outcome
+    told: &mut Reply,
+) -> Ended
     requires whole { HasVolume named.volume.0 logical_lens [] (logical_before held.old) }
     ensures runs { (layout : trees.Layout) → RunsOn named.volume.0 logical_lens
         (allowed_named layout (named_of named) (caller_of run.entry.caller.now)
         (moment_of run.entry.moment) (call_of (calls.SetAttributes handle.now set.now guard)))
-        (logical_before held.old) (outcome_of result) (logical_after held.old held.new) }
-    ensures moved { UnlessReplied (outcome_of result) (held.new ≡ held.old) }
+        (logical_before held.old) (outcome_told result told.new) (logical_after held.old held.new) }
+    ensures moved { UnlessReplied (outcome_told result told.new) (held.new ≡ held.old) }
     ensures alike { logical_alike held.old held.new }
 {
     let Named { volume, fileid } = named;
     if let Some(status) = setting_refusal(held, fileid, set, run.caller) {
-        return Outcome::Replied(Reply::Success(Answer::SetAttributes(Err(status))));
+        return tell(told, Answer::SetAttributes(Err(status)));
     }
-    let told = set_attributes(held, volume, fileid, set, guard, run.caller, run.moment);
-    Outcome::Replied(Reply::Success(Answer::SetAttributes(told)))
+    let results = set_attributes(held, volume, fileid, set, guard, run.caller, run.moment);
+    tell(told, Answer::SetAttributes(results))
 }
 
 /// Runs a WRITE.
@@ -82,20 +83,21 @@ pub(crate) fn write_here(
     offset: u64,
     count: u32,
     bytes: &BytesToWrite,
-) -> Outcome
+    told: &mut Reply,
+) -> Ended
     requires whole { HasVolume named.volume.0 logical_lens [] (logical_before held.old) }
     ensures runs { (layout : trees.Layout) → RunsOn named.volume.0 logical_lens
         (allowed_named layout (named_of named) (caller_of run.entry.caller.now)
         (moment_of run.entry.moment) (call_of (calls.Write handle.now offset count bytes.now)))
-        (logical_before held.old) (outcome_of result) (logical_after held.old held.new) }
-    ensures moved { UnlessReplied (outcome_of result) (held.new ≡ held.old) }
+        (logical_before held.old) (outcome_told result told.new) (logical_after held.old held.new) }
+    ensures moved { UnlessReplied (outcome_told result told.new) (held.new ≡ held.old) }
     ensures alike { logical_alike held.old held.new }
 {
     let Named { volume, fileid } = named;
     let written = bytes.as_slice();
     let caller = run.caller;
-    let told = write_in_logical(held, caller, fileid, offset, count, written, run.moment);
-    outcome_written(volume, told)
+    let results = write_in_logical(held, caller, fileid, offset, count, written, run.moment);
+    tell_written(told, volume, results)
 }
 
 /// Runs a CREATE.
@@ -106,13 +108,14 @@ pub(crate) fn create_here(
     named: Named,
     target: &Target,
     mode: &CreateMode,
-) -> Outcome
+    told: &mut Reply,
+) -> Ended
     requires whole { HasVolume named.volume.0 logical_lens [] (logical_before held.old) }
     ensures runs { (layout : trees.Layout) → RunsOn named.volume.0 logical_lens
         (allowed_named layout (named_of named) (caller_of run.entry.caller.now)
         (moment_of run.entry.moment) (call_of (calls.Create target.now mode.now)))
-        (logical_before held.old) (outcome_of result) (logical_after held.old held.new) }
-    ensures moved { UnlessReplied (outcome_of result) (held.new ≡ held.old) }
+        (logical_before held.old) (outcome_told result told.new) (logical_after held.old held.new) }
+    ensures moved { UnlessReplied (outcome_told result told.new) (held.new ≡ held.old) }
     ensures alike { logical_alike held.old held.new }
 {
     look_ahead(run.ahead, held, named, target);
@@ -120,11 +123,14 @@ pub(crate) fn create_here(
     let name = target.name.as_bytes();
     let caller = run.caller;
     if let Some(status) = creating_refusal(held, fileid, name, mode, caller) {
-        return Outcome::Replied(Reply::Success(Answer::Create(Err(status))));
+        return tell(told, Answer::Create(Err(status)));
     }
-    outcome_created(create(
-        run.alloc, held, volume, fileid, name, mode, caller, run.moment,
-    ))
+    tell_created(
+        told,
+        create(
+            run.alloc, held, volume, fileid, name, mode, caller, run.moment,
+        ),
+    )
 }
 
 /// Runs a MKDIR.
@@ -135,25 +141,26 @@ pub(crate) fn make_directory_here(
     named: Named,
     target: &Target,
     set: &SetAttributes,
-) -> Outcome
+    told: &mut Reply,
+) -> Ended
     requires whole { HasVolume named.volume.0 logical_lens [] (logical_before held.old) }
     ensures runs { (layout : trees.Layout) → RunsOn named.volume.0 logical_lens
         (allowed_named layout (named_of named) (caller_of run.entry.caller.now)
         (moment_of run.entry.moment) (call_of (calls.MakeDirectory target.now set.now)))
-        (logical_before held.old) (outcome_of result) (logical_after held.old held.new) }
-    ensures moved { UnlessReplied (outcome_of result) (held.new ≡ held.old) }
+        (logical_before held.old) (outcome_told result told.new) (logical_after held.old held.new) }
+    ensures moved { UnlessReplied (outcome_told result told.new) (held.new ≡ held.old) }
     ensures alike { logical_alike held.old held.new }
 {
     let Named { volume, fileid } = named;
     let name = target.name.as_bytes();
     let caller = run.caller;
     if let Some(status) = making_refusal(held, fileid, name, caller) {
-        return Outcome::Replied(Reply::Success(Answer::MakeDirectory(Err(status))));
+        return tell(told, Answer::MakeDirectory(Err(status)));
     }
     let made = make_directory(
         run.alloc, held, volume, fileid, name, set, caller, run.moment,
     );
-    outcome_directory_made(made)
+    tell_directory_made(told, made)
 }
 
 /// Runs a SYMLINK.
@@ -165,14 +172,15 @@ pub(crate) fn make_symbolic_link_here(
     target: &Target,
     set: &SetAttributes,
     text: &Name,
-) -> Outcome
+    told: &mut Reply,
+) -> Ended
     requires whole { HasVolume named.volume.0 logical_lens [] (logical_before held.old) }
     ensures runs { (layout : trees.Layout) → RunsOn named.volume.0 logical_lens
         (allowed_named layout (named_of named) (caller_of run.entry.caller.now)
         (moment_of run.entry.moment)
         (call_of (calls.MakeSymbolicLink target.now set.now text.now)))
-        (logical_before held.old) (outcome_of result) (logical_after held.old held.new) }
-    ensures moved { UnlessReplied (outcome_of result) (held.new ≡ held.old) }
+        (logical_before held.old) (outcome_told result told.new) (logical_after held.old held.new) }
+    ensures moved { UnlessReplied (outcome_told result told.new) (held.new ≡ held.old) }
     ensures alike { logical_alike held.old held.new }
 {
     let Named { volume, fileid } = named;
@@ -180,11 +188,14 @@ pub(crate) fn make_symbolic_link_here(
     let text = text.as_bytes();
     let caller = run.caller;
     if let Some(status) = making_refusal(held, fileid, name, caller) {
-        return Outcome::Replied(Reply::Success(Answer::MakeSymbolicLink(Err(status))));
+        return tell(told, Answer::MakeSymbolicLink(Err(status)));
     }
-    outcome_link_made(make_symbolic_link(
-        run.alloc, held, volume, fileid, name, set, text, caller, run.moment,
-    ))
+    tell_link_made(
+        told,
+        make_symbolic_link(
+            run.alloc, held, volume, fileid, name, set, text, caller, run.moment,
+        ),
+    )
 }
 
 /// Runs a MKNOD.
@@ -196,24 +207,28 @@ pub(crate) fn make_device_here(
     target: &Target,
     kind: FileKind,
     set: &SetAttributes,
-) -> Outcome
+    told: &mut Reply,
+) -> Ended
     requires whole { HasVolume named.volume.0 logical_lens [] (logical_before held.old) }
     ensures runs { (layout : trees.Layout) → RunsOn named.volume.0 logical_lens
         (allowed_named layout (named_of named) (caller_of run.entry.caller.now)
         (moment_of run.entry.moment) (call_of (calls.MakeDevice target.now kind set.now)))
-        (logical_before held.old) (outcome_of result) (logical_after held.old held.new) }
-    ensures moved { UnlessReplied (outcome_of result) (held.new ≡ held.old) }
+        (logical_before held.old) (outcome_told result told.new) (logical_after held.old held.new) }
+    ensures moved { UnlessReplied (outcome_told result told.new) (held.new ≡ held.old) }
     ensures alike { logical_alike held.old held.new }
 {
     let Named { volume, fileid } = named;
     let name = target.name.as_bytes();
     let caller = run.caller;
     if let Some(status) = node_refusal(held, fileid, name, kind, caller) {
-        return Outcome::Replied(Reply::Success(Answer::MakeDevice(Err(status))));
+        return tell(told, Answer::MakeDevice(Err(status)));
     }
-    outcome_device_made(make_device(
-        run.alloc, held, volume, fileid, name, kind, set, caller, run.moment,
-    ))
+    tell_device_made(
+        told,
+        make_device(
+            run.alloc, held, volume, fileid, name, kind, set, caller, run.moment,
+        ),
+    )
 }
 
 /// Runs a REMOVE.
@@ -223,23 +238,24 @@ pub(crate) fn remove_here(
     held: &mut LogicalHeld<Files>,
     named: Named,
     target: &Target,
-) -> Outcome
+    told: &mut Reply,
+) -> Ended
     requires whole { HasVolume named.volume.0 logical_lens [] (logical_before held.old) }
     ensures runs { (layout : trees.Layout) → RunsOn named.volume.0 logical_lens
         (allowed_named layout (named_of named) (caller_of run.entry.caller.now)
         (moment_of run.entry.moment) (call_of (calls.Remove target.now)))
-        (logical_before held.old) (outcome_of result) (logical_after held.old held.new) }
-    ensures moved { UnlessReplied (outcome_of result) (held.new ≡ held.old) }
+        (logical_before held.old) (outcome_told result told.new) (logical_after held.old held.new) }
+    ensures moved { UnlessReplied (outcome_told result told.new) (held.new ≡ held.old) }
     ensures alike { logical_alike held.old held.new }
 {
     look_ahead(run.ahead, held, named, target);
     let Named { volume, fileid } = named;
     let name = target.name.as_bytes();
     if let Some(status) = removing_refusal(held, fileid, name, run.caller) {
-        return Outcome::Replied(Reply::Success(Answer::Remove(Err(status))));
+        return tell(told, Answer::Remove(Err(status)));
     }
-    let told = remove(held, volume, fileid, name, run.moment);
-    Outcome::Replied(Reply::Success(Answer::Remove(told)))
+    let results = remove(held, volume, fileid, name, run.moment);
+    tell(told, Answer::Remove(results))
 }
 
 /// Runs a RMDIR.
@@ -249,22 +265,23 @@ pub(crate) fn remove_directory_here(
     held: &mut LogicalHeld<Files>,
     named: Named,
     target: &Target,
-) -> Outcome
+    told: &mut Reply,
+) -> Ended
     requires whole { HasVolume named.volume.0 logical_lens [] (logical_before held.old) }
     ensures runs { (layout : trees.Layout) → RunsOn named.volume.0 logical_lens
         (allowed_named layout (named_of named) (caller_of run.entry.caller.now)
         (moment_of run.entry.moment) (call_of (calls.RemoveDirectory target.now)))
-        (logical_before held.old) (outcome_of result) (logical_after held.old held.new) }
-    ensures moved { UnlessReplied (outcome_of result) (held.new ≡ held.old) }
+        (logical_before held.old) (outcome_told result told.new) (logical_after held.old held.new) }
+    ensures moved { UnlessReplied (outcome_told result told.new) (held.new ≡ held.old) }
     ensures alike { logical_alike held.old held.new }
 {
     let Named { volume, fileid } = named;
     let name = target.name.as_bytes();
     if let Some(status) = removing_refusal(held, fileid, name, run.caller) {
-        return Outcome::Replied(Reply::Success(Answer::RemoveDirectory(Err(status))));
+        return tell(told, Answer::RemoveDirectory(Err(status)));
     }
-    let told = remove_directory(held, volume, fileid, name, run.moment);
-    Outcome::Replied(Reply::Success(Answer::RemoveDirectory(told)))
+    let results = remove_directory(held, volume, fileid, name, run.moment);
+    tell(told, Answer::RemoveDirectory(results))
 }
 
 /// Runs a RENAME, whose first handle names this.
@@ -276,22 +293,23 @@ pub(crate) fn rename_here(
     named: Named,
     from: &Target,
     to: &Target,
-) -> Outcome
+    told: &mut Reply,
+) -> Ended
     requires home { home (layout_of layout.now) (call_of (calls.Rename from.now to.now))
         ≡ Some (trees.Logical named.volume.0) }
     requires whole { HasVolume named.volume.0 logical_lens [] (logical_before held.old) }
     ensures runs { RunsOn named.volume.0 logical_lens
         (allowed_named (layout_of layout.now) (named_of named) (caller_of run.entry.caller.now)
         (moment_of run.entry.moment) (call_of (calls.Rename from.now to.now)))
-        (logical_before held.old) (outcome_of result) (logical_after held.old held.new) }
-    ensures moved { UnlessReplied (outcome_of result) (held.new ≡ held.old) }
+        (logical_before held.old) (outcome_told result told.new) (logical_after held.old held.new) }
+    ensures moved { UnlessReplied (outcome_told result told.new) (held.new ≡ held.old) }
     ensures alike { logical_alike held.old held.new }
 {
     let Named { volume, fileid } = named;
     let other = fileid_of(&to.directory, layout);
     let (from, to) = (from.name.as_bytes(), to.name.as_bytes());
     if let Some(status) = renaming_refusal(held, fileid, from, other, to, run.caller) {
-        return Outcome::Replied(Reply::Success(Answer::Rename(Err(status))));
+        return tell(told, Answer::Rename(Err(status)));
     }
     let from = EntryName {
         directory: fileid,
@@ -301,7 +319,7 @@ pub(crate) fn rename_here(
         directory: other,
         name: to,
     };
-    outcome_renamed(rename(run.alloc, held, volume, from, to, run.moment))
+    tell_renamed(told, rename(run.alloc, held, volume, from, to, run.moment))
 }
 
 /// Runs a LINK, whose first handle names this.
@@ -313,80 +331,93 @@ pub(crate) fn make_link_here(
     named: Named,
     handle: &FileHandle,
     target: &Target,
-) -> Outcome
+    told: &mut Reply,
+) -> Ended
     requires whole { HasVolume named.volume.0 logical_lens [] (logical_before held.old) }
     ensures runs { RunsOn named.volume.0 logical_lens
         (allowed_named (layout_of layout.now) (named_of named) (caller_of run.entry.caller.now)
         (moment_of run.entry.moment) (call_of (calls.MakeLink handle.now target.now)))
-        (logical_before held.old) (outcome_of result) (logical_after held.old held.new) }
-    ensures moved { UnlessReplied (outcome_of result) (held.new ≡ held.old) }
+        (logical_before held.old) (outcome_told result told.new) (logical_after held.old held.new) }
+    ensures moved { UnlessReplied (outcome_told result told.new) (held.new ≡ held.old) }
     ensures alike { logical_alike held.old held.new }
 {
     let Named { volume, fileid } = named;
     let directory = fileid_of(&target.directory, layout);
     let name = target.name.as_bytes();
     if let Some(status) = linking_refusal(held, fileid, directory, name, run.caller) {
-        return Outcome::Replied(Reply::Success(Answer::MakeLink(Err(status))));
+        return tell(told, Answer::MakeLink(Err(status)));
     }
-    outcome_linked(make_link(run.alloc, held, volume, fileid, directory, name, run.moment))
+    tell_linked(
+        told,
+        make_link(run.alloc, held, volume, fileid, directory, name, run.moment),
+    )
 }
 
 /// What a CREATE comes to.
-fn outcome_created(made: Result<Result<MakeResults, Status>, AllocError>) -> Outcome
-    ensures { outcome_of result ≡ making_outcome answers.Create made }
+fn tell_created(told: &mut Reply, made: Result<Result<MakeResults, Status>, AllocError>) -> Ended
+    ensures { outcome_told result told.new ≡ making_outcome answers.Create made }
 {
     match made {
-        Ok(told) => Outcome::Replied(Reply::Success(Answer::Create(told))),
-        Err(AllocError) => Outcome::Starved,
+        Ok(results) => tell(told, Answer::Create(results)),
+        Err(AllocError) => Ended::Starved,
     }
 }
 
 /// What a MKDIR comes to.
-fn outcome_directory_made(made: Result<Result<MakeResults, Status>, AllocError>) -> Outcome
-    ensures { outcome_of result ≡ making_outcome answers.MakeDirectory made }
+fn tell_directory_made(
+    told: &mut Reply,
+    made: Result<Result<MakeResults, Status>, AllocError>,
+) -> Ended
+    ensures { outcome_told result told.new ≡ making_outcome answers.MakeDirectory made }
 {
     match made {
-        Ok(told) => Outcome::Replied(Reply::Success(Answer::MakeDirectory(told))),
-        Err(AllocError) => Outcome::Starved,
+        Ok(results) => tell(told, Answer::MakeDirectory(results)),
+        Err(AllocError) => Ended::Starved,
     }
 }
 
 /// What a SYMLINK comes to.
-fn outcome_link_made(made: Result<Result<MakeResults, Status>, AllocError>) -> Outcome
-    ensures { outcome_of result ≡ making_outcome answers.MakeSymbolicLink made }
+fn tell_link_made(told: &mut Reply, made: Result<Result<MakeResults, Status>, AllocError>) -> Ended
+    ensures { outcome_told result told.new ≡ making_outcome answers.MakeSymbolicLink made }
 {
     match made {
-        Ok(told) => Outcome::Replied(Reply::Success(Answer::MakeSymbolicLink(told))),
-        Err(AllocError) => Outcome::Starved,
+        Ok(results) => tell(told, Answer::MakeSymbolicLink(results)),
+        Err(AllocError) => Ended::Starved,
     }
 }
 
 /// What a MKNOD comes to.
-fn outcome_device_made(made: Result<Result<MakeResults, Status>, AllocError>) -> Outcome
-    ensures { outcome_of result ≡ making_outcome answers.MakeDevice made }
+fn tell_device_made(
+    told: &mut Reply,
+    made: Result<Result<MakeResults, Status>, AllocError>,
+) -> Ended
+    ensures { outcome_told result told.new ≡ making_outcome answers.MakeDevice made }
 {
     match made {
-        Ok(told) => Outcome::Replied(Reply::Success(Answer::MakeDevice(told))),
-        Err(AllocError) => Outcome::Starved,
+        Ok(results) => tell(told, Answer::MakeDevice(results)),
+        Err(AllocError) => Ended::Starved,
     }
 }
 
 /// What a LINK comes to.
-fn outcome_linked(linked: Result<Result<LinkResults, Status>, AllocError>) -> Outcome
-    ensures { outcome_of result ≡ linking_outcome linked }
+fn tell_linked(told: &mut Reply, linked: Result<Result<LinkResults, Status>, AllocError>) -> Ended
+    ensures { outcome_told result told.new ≡ linking_outcome linked }
 {
     match linked {
-        Ok(told) => Outcome::Replied(Reply::Success(Answer::MakeLink(told))),
-        Err(AllocError) => Outcome::Starved,
+        Ok(results) => tell(told, Answer::MakeLink(results)),
+        Err(AllocError) => Ended::Starved,
     }
 }
 
 /// What a RENAME comes to.
-fn outcome_renamed(renamed: Result<Result<RenameResults, Status>, AllocError>) -> Outcome
-    ensures { outcome_of result ≡ renaming_outcome renamed }
+fn tell_renamed(
+    told: &mut Reply,
+    renamed: Result<Result<RenameResults, Status>, AllocError>,
+) -> Ended
+    ensures { outcome_told result told.new ≡ renaming_outcome renamed }
 {
     match renamed {
-        Ok(told) => Outcome::Replied(Reply::Success(Answer::Rename(told))),
-        Err(AllocError) => Outcome::Starved,
+        Ok(results) => tell(told, Answer::Rename(results)),
+        Err(AllocError) => Ended::Starved,
     }
 }

@@ -18,7 +18,7 @@ ghost use Rattle.service.specs.Running.{
   call_named,
   call_on,
   is_told,
-  outcome_of,
+  outcome_told,
   IsRunAt,
   IsRunInLogical,
   RunsThere,
@@ -29,7 +29,7 @@ use crate::changing::{
     remove_directory_here, remove_here, rename_here, set_attributes_here, write_here,
 };
 use crate::named::fileid_of_call;
-use crate::outcome::Outcome;
+use crate::outcome::Ended;
 use crate::repeated::{remember, tell_again, told_before};
 use crate::task::Run;
 use crate::telling::{
@@ -39,7 +39,7 @@ use crate::telling::{
 };
 use affinity::{CallNode, Layout};
 use filer_state::Files;
-use nfs_values::{Call, Named, VolumeNumber};
+use nfs_values::{Call, Named, Reply, VolumeNumber};
 use parcels::LogicalHeld;
 use service_names::listing::PageAsked;
 use service_names::listing_plus::PagePlusAsked;
@@ -47,38 +47,38 @@ use service_names::listing_plus::PagePlusAsked;
 /// Runs a call on the parcels under Volume Logical of its volume: its home, or where a WRITE moved.
 /// A WRITE that the stock has too few blocks for has to run on Volume, as any call that isn't on
 /// names, attributes or bytes would.
-#[inline(never)] // else its outcome is moved once more
+#[inline(never)]
 pub fn run_on_logical(
     run: Run,
     layout: &Layout,
     volume: VolumeNumber,
     held: &mut LogicalHeld<Files>,
-) -> Outcome
+    told: &mut Reply,
+) -> Ended
     requires at { IsRunAt (layout_of layout.now) run.call.now (trees.Logical volume.0) }
     requires whole { HasVolume volume.0 logical_lens [] (logical_before held.old) }
     ensures runs { RunsOn volume.0 logical_lens
         (call_on (layout_of layout.now) (trees.Logical volume.0)
         (caller_of run.entry.caller.now) (moment_of run.entry.moment)
         (call_of run.entry.call.now))
-        (logical_before held.old) (outcome_of result) (logical_after held.old held.new) }
-    ensures moved { UnlessReplied (outcome_of result) (held.new ≡ held.old) }
+        (logical_before held.old) (outcome_told result told.new) (logical_after held.old held.new) }
+    ensures moved { UnlessReplied (outcome_told result told.new) (held.new ≡ held.old) }
     ensures alike { logical_alike held.old held.new }
 {
     let fileid = fileid_of_call(layout, run.call);
     let named = Named { volume, fileid };
-    // One match, since each function between moves an outcome once more.
     match run.call {
-        Call::GetAttributes { handle } => get_attributes_here(run, held, named, handle),
-        Call::Lookup(target) => lookup_here(run, held, named, target),
+        Call::GetAttributes { handle } => get_attributes_here(run, held, named, handle, told),
+        Call::Lookup(target) => lookup_here(run, held, named, target, told),
         Call::CheckAccess { handle, asked } => {
-            check_access_here(run, held, named, handle, *asked)
+            check_access_here(run, held, named, handle, *asked, told)
         }
-        Call::ReadLink { handle } => read_link_here(run, held, named, handle),
+        Call::ReadLink { handle } => read_link_here(run, held, named, handle, told),
         Call::Read {
             handle,
             offset,
             count,
-        } => read_here(run, held, named, handle, *offset, *count),
+        } => read_here(run, held, named, handle, *offset, *count, told),
         Call::ReadDirectory {
             directory,
             cookie,
@@ -90,7 +90,7 @@ pub fn run_on_logical(
                 verifier: *verifier,
                 count: *count,
             };
-            read_directory_here(run, held, named, directory, asked)
+            read_directory_here(run, held, named, directory, asked, told)
         }
         Call::ReadDirectoryPlus {
             directory,
@@ -105,20 +105,28 @@ pub fn run_on_logical(
                 names_count: *names_count,
                 count: *count,
             };
-            read_directory_plus_here(run, held, named, directory, asked)
+            read_directory_plus_here(run, held, named, directory, asked, told)
         }
-        Call::FilesystemInfo { handle } => filesystem_info_here(run, held, named, handle),
-        Call::PathConfiguration { handle } => path_configuration_here(run, held, named, handle),
-        Call::Commit { handle } => commit_here(run, held, named, handle),
-        Call::MountBelow { root, path } => mount_below_here(run, held, named, root, path),
-        _ => change_once(run, layout, held, named),
+        Call::FilesystemInfo { handle } => filesystem_info_here(run, held, named, handle, told),
+        Call::PathConfiguration { handle } => path_configuration_here(
+            run, held, named, handle, told,
+        ),
+        Call::Commit { handle } => commit_here(run, held, named, handle, told),
+        Call::MountBelow { root, path } => mount_below_here(run, held, named, root, path, told),
+        _ => change_once(run, layout, held, named, told),
     }
 }
 
 /// Runs a call that may change the volume of what its handle names, on the volume's parcels. One
 /// that comes again is told what it was told before, where that is remembered.
 #[inline(never)]
-fn change_once(run: Run, layout: &Layout, held: &mut LogicalHeld<Files>, named: Named) -> Outcome
+fn change_once(
+    run: Run,
+    layout: &Layout,
+    held: &mut LogicalHeld<Files>,
+    named: Named,
+    told: &mut Reply,
+) -> Ended
     requires run { IsRunInLogical run.call.now }
     requires changes { is_told run.call.now ≡ false }
     requires there { RunsThere (layout_of layout.now) (call_of run.call.now)
@@ -127,22 +135,28 @@ fn change_once(run: Run, layout: &Layout, held: &mut LogicalHeld<Files>, named: 
     ensures runs { RunsOn named.volume.0 logical_lens
         (call_named (layout_of layout.now) (named_of named) (caller_of run.entry.caller.now)
         (moment_of run.entry.moment) (call_of run.entry.call.now))
-        (logical_before held.old) (outcome_of result) (logical_after held.old held.new) }
-    ensures moved { UnlessReplied (outcome_of result) (held.new ≡ held.old) }
+        (logical_before held.old) (outcome_told result told.new) (logical_after held.old held.new) }
+    ensures moved { UnlessReplied (outcome_told result told.new) (held.new ≡ held.old) }
     ensures alike { logical_alike held.old held.new }
 {
-    if let Some(told) = told_before(run, &held.own) {
-        return tell_again(run, told, named.volume);
+    if let Some(before) = told_before(run, &held.own) {
+        return tell_again(run, before, named.volume, told);
     }
-    let outcome = change(run, layout, held, named);
-    remember(run, &mut held.own, &outcome);
-    outcome
+    let ended = change(run, layout, held, named, told);
+    remember(run, &mut held.own, ended, told);
+    ended
 }
 
 /// Runs a call that may change the volume of what its handle names, on the volume's parcels, as
 /// where nothing is remembered.
 #[inline(never)]
-fn change(run: Run, layout: &Layout, held: &mut LogicalHeld<Files>, named: Named) -> Outcome
+fn change(
+    run: Run,
+    layout: &Layout,
+    held: &mut LogicalHeld<Files>,
+    named: Named,
+    told: &mut Reply,
+) -> Ended
     requires run { IsRunInLogical run.call.now }
     requires changes { is_told run.call.now ≡ false }
     requires there { RunsThere (layout_of layout.now) (call_of run.call.now)
@@ -151,34 +165,36 @@ fn change(run: Run, layout: &Layout, held: &mut LogicalHeld<Files>, named: Named
     ensures runs { RunsOn named.volume.0 logical_lens
         (allowed_named (layout_of layout.now) (named_of named) (caller_of run.entry.caller.now)
         (moment_of run.entry.moment) (call_of run.entry.call.now))
-        (logical_before held.old) (outcome_of result) (logical_after held.old held.new) }
-    ensures moved { UnlessReplied (outcome_of result) (held.new ≡ held.old) }
+        (logical_before held.old) (outcome_told result told.new) (logical_after held.old held.new) }
+    ensures moved { UnlessReplied (outcome_told result told.new) (held.new ≡ held.old) }
     ensures alike { logical_alike held.old held.new }
 {
     match run.call {
         Call::SetAttributes { handle, set, guard } => {
-            set_attributes_here(run, held, named, handle, set, *guard)
+            set_attributes_here(run, held, named, handle, set, *guard, told)
         }
         Call::Write {
             handle,
             offset,
             count,
             bytes,
-        } => write_here(run, held, named, handle, *offset, *count, bytes),
-        Call::Create { target, mode } => create_here(run, held, named, target, mode),
-        Call::MakeDirectory { target, set } => make_directory_here(run, held, named, target, set),
+        } => write_here(run, held, named, handle, *offset, *count, bytes, told),
+        Call::Create { target, mode } => create_here(run, held, named, target, mode, told),
+        Call::MakeDirectory { target, set } => make_directory_here(
+            run, held, named, target, set, told,
+        ),
         Call::MakeSymbolicLink { target, set, text } => {
-            make_symbolic_link_here(run, held, named, target, set, text)
+            make_symbolic_link_here(run, held, named, target, set, text, told)
         }
         Call::MakeDevice { target, kind, set } => {
-            make_device_here(run, held, named, target, *kind, set)
+            make_device_here(run, held, named, target, *kind, set, told)
         }
-        Call::Remove(target) => remove_here(run, held, named, target),
-        Call::RemoveDirectory(target) => remove_directory_here(run, held, named, target),
-        Call::Rename { from, to } => rename_here(run, layout, held, named, from, to),
+        Call::Remove(target) => remove_here(run, held, named, target, told),
+        Call::RemoveDirectory(target) => remove_directory_here(run, held, named, target, told),
+        Call::Rename { from, to } => rename_here(run, layout, held, named, from, to, told),
         Call::MakeLink { handle, target } => {
-            make_link_here(run, layout, held, named, handle, target)
+            make_link_here(run, layout, held, named, handle, target, told)
         }
-        _ => Outcome::Moved(CallNode::Volume(named.volume.0)),
+        _ => Ended::Moved(CallNode::Volume(named.volume.0)),
     }
 }

@@ -11,18 +11,18 @@ ghost use Rattle.filer_state.specs.state.Running.{RunsOn, UnlessReplied};
 ghost use Rattle.service.specs.Running.{
   call_of_node,
   call_on,
-  outcome_of,
+  outcome_told,
   BytesLieIn,
   IsRunAt,
   IsStripeOf,
 };
 
 use crate::named::fileid_of_call;
-use crate::outcome::{Outcome, outcome_read, outcome_written_in_stripe};
+use crate::outcome::{Ended, tell_read, tell_written_in_stripe};
 use crate::task::Run;
 use affinity::{CallNode, Layout};
 use filer_state::Files;
-use nfs_values::{Call, Fileid, VolumeNumber};
+use nfs_values::{Call, Fileid, Reply, VolumeNumber};
 use parcels::StripeHeld;
 use service_data::{read_in_stripe, write_in_stripe};
 
@@ -34,18 +34,19 @@ pub fn run_on_stripe(
     volume: VolumeNumber,
     stripe: u32,
     held: &mut StripeHeld<Files>,
-) -> Outcome
+    told: &mut Reply,
+) -> Ended
     requires at { IsRunAt (layout_of layout.now) run.call.now (trees.Stripe volume.0 stripe) }
     requires stripe { IsStripeOf (layout_of layout.now) volume.0 stripe held.old.own }
     ensures runs { RunsOn volume.0 (stripe_lens stripe)
         (call_on (layout_of layout.now) (trees.Stripe volume.0 stripe)
         (caller_of run.entry.caller.now) (moment_of run.entry.moment)
         (call_of run.entry.call.now))
-        held.old.own (outcome_of result) held.new.own }
-    ensures moved { UnlessReplied (outcome_of result) (held.new ≡ held.old) }
+        held.old.own (outcome_told result told.new) held.new.own }
+    ensures moved { UnlessReplied (outcome_told result told.new) (held.new ≡ held.old) }
 {
     let fileid = fileid_of_call(layout, run.call);
-    run_on_bytes(run, volume, stripe, held, fileid)
+    run_on_bytes(run, volume, stripe, held, fileid, told)
 }
 
 /// Runs a call on bytes of a file, which lie in a stripe, on the stripe's parcel.
@@ -55,15 +56,16 @@ fn run_on_bytes(
     stripe: u32,
     held: &mut StripeHeld<Files>,
     fileid: Fileid,
-) -> Outcome
+    told: &mut Reply,
+) -> Ended
     requires there { stripe < held.old.own.stripes }
     requires bytes { BytesLieIn held.old.own.stripes stripe fileid.0 (call_of run.call.now) }
     ensures runs { (layout : trees.Layout) → RunsOn volume.0 (stripe_lens stripe)
         (call_of_node layout (trees.Stripe volume.0 stripe) fileid.0
         (caller_of run.entry.caller.now) (moment_of run.entry.moment)
         (call_of run.entry.call.now))
-        held.old.own (outcome_of result) held.new.own }
-    ensures moved { UnlessReplied (outcome_of result) (held.new ≡ held.old) }
+        held.old.own (outcome_told result told.new) held.new.own }
+    ensures moved { UnlessReplied (outcome_told result told.new) (held.new ≡ held.old) }
 {
     match run.call {
         Call::Read {
@@ -71,8 +73,8 @@ fn run_on_bytes(
             offset,
             count,
         } => {
-            let told = read_in_stripe(run.alloc, held, run.caller, fileid, *offset, *count);
-            outcome_read(told)
+            let results = read_in_stripe(run.alloc, held, run.caller, fileid, *offset, *count);
+            tell_read(told, results)
         }
         Call::Write {
             handle: _,
@@ -82,9 +84,9 @@ fn run_on_bytes(
         } => {
             let written = bytes.as_slice();
             let (caller, moment) = (run.caller, run.moment);
-            let told = write_in_stripe(held, caller, fileid, *offset, *count, written, moment);
-            outcome_written_in_stripe(volume, told)
+            let results = write_in_stripe(held, caller, fileid, *offset, *count, written, moment);
+            tell_written_in_stripe(told, volume, results)
         }
-        _ => Outcome::Moved(CallNode::Logical(volume.0)),
+        _ => Ended::Moved(CallNode::Logical(volume.0)),
     }
 }

@@ -11,10 +11,10 @@ ghost use Rattle.filer_state.specs.state.Lenses.{volume_lens};
 ghost use Rattle.filer_state.specs.state.Promises.{HasVolume};
 ghost use Rattle.filer_state.specs.state.Running.{RunsOn, UnlessReplied};
 ghost use Rattle.filer_state.specs.state.Sets.{volume_before, volume_after};
-ghost use Rattle.service.specs.Running.{call_on, outcome_of, IsRunAt};
+ghost use Rattle.service.specs.Running.{call_on, outcome_told, IsRunAt};
 
 use crate::named::fileid_of_call;
-use crate::outcome::{Outcome, outcome_written};
+use crate::outcome::{Ended, tell, tell_written};
 use crate::task::Run;
 use crate::totals::filesystem_status;
 use affinity::{CallNode, Layout};
@@ -31,14 +31,15 @@ pub fn run_on_volume(
     layout: &Layout,
     volume: VolumeNumber,
     held: &mut VolumeHeld<Files>,
-) -> Outcome
+    told: &mut Reply,
+) -> Ended
     requires at { IsRunAt (layout_of layout.now) run.call.now (trees.Volume volume.0) }
     requires whole { HasVolume volume.0 volume_lens [] (volume_before held.old) }
     ensures runs { RunsOn volume.0 volume_lens
         (call_on (layout_of layout.now) (trees.Volume volume.0) (caller_of run.entry.caller.now)
         (moment_of run.entry.moment) (call_of run.entry.call.now))
-        (volume_before held.old) (outcome_of result) (volume_after held.old held.new) }
-    ensures moved { UnlessReplied (outcome_of result) (held.new ≡ held.old) }
+        (volume_before held.old) (outcome_told result told.new) (volume_after held.old held.new) }
+    ensures moved { UnlessReplied (outcome_told result told.new) (held.new ≡ held.old) }
     ensures alike { volume_alike held.old held.new }
 {
     let fileid = fileid_of_call(layout, run.call);
@@ -51,13 +52,13 @@ pub fn run_on_volume(
         } => {
             let written = bytes.as_slice();
             let (caller, moment) = (run.caller, run.moment);
-            let told = write_in_volume(held, caller, fileid, *offset, *count, written, moment);
-            outcome_written(volume, told)
+            let results = write_in_volume(held, caller, fileid, *offset, *count, written, moment);
+            tell_written(told, volume, results)
         }
         Call::FilesystemStatus { .. } => {
-            let told = filesystem_status(held, volume, fileid);
-            Outcome::Replied(Reply::Success(Answer::FilesystemStatus(told)))
+            let results = filesystem_status(held, volume, fileid);
+            tell(told, Answer::FilesystemStatus(results))
         }
-        _ => Outcome::Moved(CallNode::Serial),
+        _ => Ended::Moved(CallNode::Serial),
     }
 }

@@ -32,7 +32,7 @@ pub use hand_work::HandWork;
 pub use inner::{BatchOutcome, SurveyOutcome, Undone};
 pub use job::{BatchReply, FreeCounts, InnerCall, Job, JobReply, ServedCall};
 pub use machine::Service;
-pub use outcome::Outcome;
+pub use outcome::{Ended, Outcome, outcome_with, starved, tell_starved};
 pub use service_names::Ahead;
 pub use task::Run;
 pub use works::{BatchWork, LogicalWork, RangeWork, SurveyWork, put_down};

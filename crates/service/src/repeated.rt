@@ -7,9 +7,9 @@ ghost use Rattle.nfs_model.specs.Work.{Replied};
 ghost use Rattle.nfs_values.specs.Call.{call_of};
 ghost use Rattle.nfs_values.specs.Caller.{caller_of};
 ghost use Rattle.nfs_values.specs.Moment.{moment_of};
-ghost use Rattle.service.specs.Running.{outcome_of, remembering};
+ghost use Rattle.service.specs.Running.{outcome_told, remembering};
 
-use crate::outcome::Outcome;
+use crate::outcome::{Ended, tell};
 use crate::task::Run;
 use filer_state::LogicalParcel;
 use memos::Remembered;
@@ -27,11 +27,17 @@ pub(crate) fn told_before<'a>(run: Run, own: &'a LogicalParcel) -> Option<Rememb
 /// What a call comes to that is told this again, which is counted. It stands apart, so that others
 /// have no room for its answer.
 #[inline(never)]
-pub(crate) fn tell_again(run: Run, told: Remembered, volume: VolumeNumber) -> Outcome
-    ensures { outcome_of result ≡ Replied (Success (answer_told volume.0 told.entry)) }
+pub(crate) fn tell_again(
+    run: Run,
+    before: Remembered,
+    volume: VolumeNumber,
+    told: &mut Reply,
+) -> Ended
+    ensures { outcome_told result told.new
+        ≡ Replied (Success (answer_told volume.0 before.entry)) }
 {
     count(run.ahead);
-    Outcome::Replied(Reply::Success(told.answer(run.call, volume)))
+    tell(told, before.answer(run.call, volume))
 }
 
 /// Counts a call that was told a reply again, where that is counted.
@@ -42,11 +48,11 @@ fn count(ahead: Option<&Ahead>) {
 }
 
 /// Remembers what a call came to, where it succeeded.
-pub(crate) fn remember(run: Run, own: &mut LogicalParcel, outcome: &Outcome)
+pub(crate) fn remember(run: Run, own: &mut LogicalParcel, ended: Ended, told: &Reply)
     ensures { own.new ≡ remembering (caller_of run.entry.caller.now) (call_of run.entry.call.now)
-        (moment_of run.entry.moment) (outcome_of outcome.now) own.old }
+        (moment_of run.entry.moment) (outcome_told ended told.now) own.old }
 {
-    if let Outcome::Replied(Reply::Success(answer)) = outcome {
+    if let (Ended::Replied, Reply::Success(answer)) = (ended, told) {
         let memos = &mut own.get_mut().memos;
         memos.remember(run.caller, run.call, run.moment, answer);
     }

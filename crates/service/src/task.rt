@@ -5,11 +5,11 @@ use crate::in_logical::run_on_logical;
 use crate::in_serial::run_on_serial;
 use crate::in_stripe::run_on_stripe;
 use crate::in_volume::run_on_volume;
-use crate::outcome::Outcome;
+use crate::outcome::Ended;
 use affinity::{Affinity, Layout};
 use desk::{ParcelKinds, Task};
 use filer_state::Files;
-use nfs_values::{Call, Caller, Moment, VolumeNumber};
+use nfs_values::{Call, Caller, Moment, Reply, VolumeNumber};
 use parcels::{
     AggrHeld, LogicalHeld, Parcel, SerialHeld, StripeHeld, VolumeHeld, aggregate_number,
     stripe_number, volume_number,
@@ -33,27 +33,32 @@ pub struct Run<'a> {
 impl<'a> Task<Parcel<Files>, ParcelKinds> for Run<'a> {
     ghost use Rattle.nfs_values.specs.Caller.{caller_of};
     ghost use Rattle.nfs_values.specs.Moment.{moment_of};
-    ghost use Rattle.service.specs.Running.{AsksFor, HasRunCall};
+    ghost use Rattle.service.specs.Running.{outcome_with, AsksFor, HasRunCall};
 
-    type Output = Outcome;
+    type Output = Ended;
+
+    type Place = Reply;
 
     ghost asks = { λ run. AsksFor run.call.now };
 
-    ghost does = { λ run. HasRunCall run.call.now
-        (caller_of run.caller.now) (moment_of run.moment) };
+    ghost does = { λ run layout affinity f came f'. HasRunCall run.call.now
+        (caller_of run.caller.now) (moment_of run.moment) layout affinity f
+        (outcome_with came.0 came.1) f' };
 
     fn on_stripe(
         self,
         layout: &Layout,
         affinity: Affinity,
         held: &mut StripeHeld<Files>,
-    ) -> Outcome {
+        told: &mut Reply,
+    ) -> Ended {
         run_on_stripe(
             self,
             layout,
             VolumeNumber(volume_number(affinity)),
             stripe_number(affinity),
             held,
+            told,
         )
     }
 
@@ -62,8 +67,15 @@ impl<'a> Task<Parcel<Files>, ParcelKinds> for Run<'a> {
         layout: &Layout,
         affinity: Affinity,
         held: &mut LogicalHeld<Files>,
-    ) -> Outcome {
-        run_on_logical(self, layout, VolumeNumber(volume_number(affinity)), held)
+        told: &mut Reply,
+    ) -> Ended {
+        run_on_logical(
+            self,
+            layout,
+            VolumeNumber(volume_number(affinity)),
+            held,
+            told,
+        )
     }
 
     fn on_volume(
@@ -71,8 +83,15 @@ impl<'a> Task<Parcel<Files>, ParcelKinds> for Run<'a> {
         layout: &Layout,
         affinity: Affinity,
         held: &mut VolumeHeld<Files>,
-    ) -> Outcome {
-        run_on_volume(self, layout, VolumeNumber(volume_number(affinity)), held)
+        told: &mut Reply,
+    ) -> Ended {
+        run_on_volume(
+            self,
+            layout,
+            VolumeNumber(volume_number(affinity)),
+            held,
+            told,
+        )
     }
 
     fn on_aggregate(
@@ -80,11 +99,18 @@ impl<'a> Task<Parcel<Files>, ParcelKinds> for Run<'a> {
         layout: &Layout,
         affinity: Affinity,
         held: &mut AggrHeld<Files>,
-    ) -> Outcome {
-        run_on_aggregate(self, layout, aggregate_number(affinity), held)
+        told: &mut Reply,
+    ) -> Ended {
+        run_on_aggregate(self, layout, aggregate_number(affinity), held, told)
     }
 
-    fn on_serial(self, layout: &Layout, _: Affinity, held: &mut SerialHeld<Files>) -> Outcome {
-        run_on_serial(self, layout, held)
+    fn on_serial(
+        self,
+        layout: &Layout,
+        _: Affinity,
+        held: &mut SerialHeld<Files>,
+        told: &mut Reply,
+    ) -> Ended {
+        run_on_serial(self, layout, held, told)
     }
 }

@@ -17,10 +17,10 @@ ghost use Rattle.service.specs.renames.NamePromises.{
   listing_plus_outcome,
   reading_link_outcome,
 };
-ghost use Rattle.service.specs.Running.{call_named, outcome_of};
+ghost use Rattle.service.specs.Running.{call_named, outcome_told};
 
 use crate::attributes::get_attributes;
-use crate::outcome::{Outcome, outcome_read};
+use crate::outcome::{Ended, tell, tell_read};
 use crate::task::Run;
 use filer_state::Files;
 use nfs_values::answer::{ReadDirectoryPlusResults, ReadDirectoryResults, ReadLinkResults};
@@ -45,15 +45,16 @@ pub(crate) fn get_attributes_here(
     held: &LogicalHeld<Files>,
     named: Named,
     handle: &FileHandle,
-) -> Outcome
+    told: &mut Reply,
+) -> Ended
     requires whole { HasVolume named.volume.0 logical_lens [] (logical_before held.now) }
     ensures { (layout : trees.Layout) → RunsOn named.volume.0 logical_lens
         (call_named layout (named_of named) (caller_of run.entry.caller.now)
         (moment_of run.entry.moment) (call_of (calls.GetAttributes handle.now)))
-        (logical_before held.now) (outcome_of result) (logical_before held.now) }
+        (logical_before held.now) (outcome_told result told.new) (logical_before held.now) }
 {
-    let told = get_attributes(held, named.volume, named.fileid);
-    Outcome::Replied(Reply::Success(Answer::GetAttributes(told)))
+    let results = get_attributes(held, named.volume, named.fileid);
+    tell(told, Answer::GetAttributes(results))
 }
 
 /// Runs a LOOKUP.
@@ -63,20 +64,21 @@ pub(crate) fn lookup_here(
     held: &LogicalHeld<Files>,
     named: Named,
     target: &Target,
-) -> Outcome
+    told: &mut Reply,
+) -> Ended
     requires whole { HasVolume named.volume.0 logical_lens [] (logical_before held.now) }
     ensures { (layout : trees.Layout) → RunsOn named.volume.0 logical_lens
         (call_named layout (named_of named) (caller_of run.entry.caller.now)
         (moment_of run.entry.moment) (call_of (calls.Lookup target.now)))
-        (logical_before held.now) (outcome_of result) (logical_before held.now) }
+        (logical_before held.now) (outcome_told result told.new) (logical_before held.now) }
 {
     look_ahead(run.ahead, held, named, target);
     let Named { volume, fileid } = named;
     if let Some(status) = lookup_refusal(held, fileid, run.caller) {
-        return Outcome::Replied(Reply::Success(Answer::Lookup(Err(status))));
+        return tell(told, Answer::Lookup(Err(status)));
     }
-    let told = lookup(held, volume, fileid, target.name.as_bytes());
-    Outcome::Replied(Reply::Success(Answer::Lookup(told)))
+    let results = lookup(held, volume, fileid, target.name.as_bytes());
+    tell(told, Answer::Lookup(results))
 }
 
 /// Runs an ACCESS.
@@ -87,15 +89,16 @@ pub(crate) fn check_access_here(
     named: Named,
     handle: &FileHandle,
     asked: u32,
-) -> Outcome
+    told: &mut Reply,
+) -> Ended
     requires whole { HasVolume named.volume.0 logical_lens [] (logical_before held.now) }
     ensures { (layout : trees.Layout) → RunsOn named.volume.0 logical_lens
         (call_named layout (named_of named) (caller_of run.entry.caller.now)
         (moment_of run.entry.moment) (call_of (calls.CheckAccess handle.now asked)))
-        (logical_before held.now) (outcome_of result) (logical_before held.now) }
+        (logical_before held.now) (outcome_told result told.new) (logical_before held.now) }
 {
-    let told = check_access(held, named.volume, named.fileid, asked, run.caller);
-    Outcome::Replied(Reply::Success(Answer::CheckAccess(told)))
+    let results = check_access(held, named.volume, named.fileid, asked, run.caller);
+    tell(told, Answer::CheckAccess(results))
 }
 
 /// Runs a READLINK.
@@ -105,14 +108,15 @@ pub(crate) fn read_link_here(
     held: &LogicalHeld<Files>,
     named: Named,
     handle: &FileHandle,
-) -> Outcome
+    told: &mut Reply,
+) -> Ended
     requires whole { HasVolume named.volume.0 logical_lens [] (logical_before held.now) }
     ensures { (layout : trees.Layout) → RunsOn named.volume.0 logical_lens
         (call_named layout (named_of named) (caller_of run.entry.caller.now)
         (moment_of run.entry.moment) (call_of (calls.ReadLink handle.now)))
-        (logical_before held.now) (outcome_of result) (logical_before held.now) }
+        (logical_before held.now) (outcome_told result told.new) (logical_before held.now) }
 {
-    outcome_link_read(read_link(run.alloc, held, named.volume, named.fileid))
+    tell_link_read(told, read_link(run.alloc, held, named.volume, named.fileid))
 }
 
 /// Runs a READ.
@@ -124,15 +128,16 @@ pub(crate) fn read_here(
     handle: &FileHandle,
     offset: u64,
     count: u32,
-) -> Outcome
+    told: &mut Reply,
+) -> Ended
     requires whole { HasVolume named.volume.0 logical_lens [] (logical_before held.now) }
     ensures { (layout : trees.Layout) → RunsOn named.volume.0 logical_lens
         (call_named layout (named_of named) (caller_of run.entry.caller.now)
         (moment_of run.entry.moment) (call_of (calls.Read handle.now offset count)))
-        (logical_before held.now) (outcome_of result) (logical_before held.now) }
+        (logical_before held.now) (outcome_told result told.new) (logical_before held.now) }
 {
-    let told = read_in_logical(run.alloc, held, run.caller, named.fileid, offset, count);
-    outcome_read(told)
+    let results = read_in_logical(run.alloc, held, run.caller, named.fileid, offset, count);
+    tell_read(told, results)
 }
 
 /// Runs a READDIR.
@@ -143,19 +148,20 @@ pub(crate) fn read_directory_here(
     named: Named,
     directory: &FileHandle,
     asked: PageAsked,
-) -> Outcome
+    told: &mut Reply,
+) -> Ended
     requires whole { HasVolume named.volume.0 logical_lens [] (logical_before held.now) }
     ensures { (layout : trees.Layout) → RunsOn named.volume.0 logical_lens
         (call_named layout (named_of named) (caller_of run.entry.caller.now)
         (moment_of run.entry.moment)
         (call_of (calls.ReadDirectory directory.now asked.cookie asked.verifier asked.count)))
-        (logical_before held.now) (outcome_of result) (logical_before held.now) }
+        (logical_before held.now) (outcome_told result told.new) (logical_before held.now) }
 {
     let Named { volume, fileid } = named;
     if let Some(status) = listing_refusal(held, fileid, run.caller) {
-        return Outcome::Replied(Reply::Success(Answer::ReadDirectory(Err(status))));
+        return tell(told, Answer::ReadDirectory(Err(status)));
     }
-    outcome_listed(read_directory(run.alloc, held, volume, fileid, asked))
+    tell_listed(told, read_directory(run.alloc, held, volume, fileid, asked))
 }
 
 /// Runs a READDIRPLUS.
@@ -166,20 +172,21 @@ pub(crate) fn read_directory_plus_here(
     named: Named,
     directory: &FileHandle,
     asked: PagePlusAsked,
-) -> Outcome
+    told: &mut Reply,
+) -> Ended
     requires whole { HasVolume named.volume.0 logical_lens [] (logical_before held.now) }
     ensures { (layout : trees.Layout) → RunsOn named.volume.0 logical_lens
         (call_named layout (named_of named) (caller_of run.entry.caller.now)
         (moment_of run.entry.moment) (call_of (calls.ReadDirectoryPlus directory.now asked.cookie
         asked.verifier asked.names_count asked.count)))
-        (logical_before held.now) (outcome_of result) (logical_before held.now) }
+        (logical_before held.now) (outcome_told result told.new) (logical_before held.now) }
 {
     let Named { volume, fileid } = named;
     if let Some(status) = listing_refusal(held, fileid, run.caller) {
-        return Outcome::Replied(Reply::Success(Answer::ReadDirectoryPlus(Err(status))));
+        return tell(told, Answer::ReadDirectoryPlus(Err(status)));
     }
     let listed = read_directory_plus(run.alloc, held, volume, fileid, asked, run.caller);
-    outcome_listed_plus(listed)
+    tell_listed_plus(told, listed)
 }
 
 /// Runs a FSINFO.
@@ -189,15 +196,16 @@ pub(crate) fn filesystem_info_here(
     held: &LogicalHeld<Files>,
     named: Named,
     handle: &FileHandle,
-) -> Outcome
+    told: &mut Reply,
+) -> Ended
     requires whole { HasVolume named.volume.0 logical_lens [] (logical_before held.now) }
     ensures { (layout : trees.Layout) → RunsOn named.volume.0 logical_lens
         (call_named layout (named_of named) (caller_of run.entry.caller.now)
         (moment_of run.entry.moment) (call_of (calls.FilesystemInfo handle.now)))
-        (logical_before held.now) (outcome_of result) (logical_before held.now) }
+        (logical_before held.now) (outcome_told result told.new) (logical_before held.now) }
 {
-    let told = filesystem_info(held, named.volume, named.fileid);
-    Outcome::Replied(Reply::Success(Answer::FilesystemInfo(told)))
+    let results = filesystem_info(held, named.volume, named.fileid);
+    tell(told, Answer::FilesystemInfo(results))
 }
 
 /// Runs a PATHCONF.
@@ -207,15 +215,16 @@ pub(crate) fn path_configuration_here(
     held: &LogicalHeld<Files>,
     named: Named,
     handle: &FileHandle,
-) -> Outcome
+    told: &mut Reply,
+) -> Ended
     requires whole { HasVolume named.volume.0 logical_lens [] (logical_before held.now) }
     ensures { (layout : trees.Layout) → RunsOn named.volume.0 logical_lens
         (call_named layout (named_of named) (caller_of run.entry.caller.now)
         (moment_of run.entry.moment) (call_of (calls.PathConfiguration handle.now)))
-        (logical_before held.now) (outcome_of result) (logical_before held.now) }
+        (logical_before held.now) (outcome_told result told.new) (logical_before held.now) }
 {
-    let told = path_configuration(held, named.volume, named.fileid, run.caller);
-    Outcome::Replied(Reply::Success(Answer::PathConfiguration(told)))
+    let results = path_configuration(held, named.volume, named.fileid, run.caller);
+    tell(told, Answer::PathConfiguration(results))
 }
 
 /// Runs a COMMIT.
@@ -225,19 +234,20 @@ pub(crate) fn commit_here(
     held: &LogicalHeld<Files>,
     named: Named,
     handle: &FileHandle,
-) -> Outcome
+    told: &mut Reply,
+) -> Ended
     requires whole { HasVolume named.volume.0 logical_lens [] (logical_before held.now) }
     ensures { (layout : trees.Layout) → RunsOn named.volume.0 logical_lens
         (call_named layout (named_of named) (caller_of run.entry.caller.now)
         (moment_of run.entry.moment) (call_of (calls.Commit handle.now)))
-        (logical_before held.now) (outcome_of result) (logical_before held.now) }
+        (logical_before held.now) (outcome_told result told.new) (logical_before held.now) }
 {
     let Named { volume, fileid } = named;
     if let Some(status) = committing_refusal(held, fileid, run.caller) {
-        return Outcome::Replied(Reply::Success(Answer::Commit(Err(status))));
+        return tell(told, Answer::Commit(Err(status)));
     }
-    let told = commit(held, volume, fileid);
-    Outcome::Replied(Reply::Success(Answer::Commit(told)))
+    let results = commit(held, volume, fileid);
+    tell(told, Answer::Commit(results))
 }
 
 /// Runs a MNT of a directory below a root.
@@ -248,46 +258,54 @@ pub(crate) fn mount_below_here(
     named: Named,
     root: &FileHandle,
     path: &Name,
-) -> Outcome
+    told: &mut Reply,
+) -> Ended
     requires whole { HasVolume named.volume.0 logical_lens [] (logical_before held.now) }
     ensures { (layout : trees.Layout) → RunsOn named.volume.0 logical_lens
         (call_named layout (named_of named) (caller_of run.entry.caller.now)
         (moment_of run.entry.moment) (call_of (calls.MountBelow root.now path.now)))
-        (logical_before held.now) (outcome_of result) (logical_before held.now) }
+        (logical_before held.now) (outcome_told result told.new) (logical_before held.now) }
 {
     let Named { volume, fileid } = named;
-    let told = mount_below(held, volume, fileid, path.as_bytes(), run.caller);
-    Outcome::Replied(Reply::Success(Answer::Mount(told)))
+    let results = mount_below(held, volume, fileid, path.as_bytes(), run.caller);
+    tell(told, Answer::Mount(results))
 }
 
 /// What a READLINK comes to.
-fn outcome_link_read(read: Result<Result<ReadLinkResults, Status>, AllocError>) -> Outcome
-    ensures { outcome_of result ≡ reading_link_outcome read }
+fn tell_link_read(
+    told: &mut Reply,
+    read: Result<Result<ReadLinkResults, Status>, AllocError>,
+) -> Ended
+    ensures { outcome_told result told.new ≡ reading_link_outcome read }
 {
     match read {
-        Ok(told) => Outcome::Replied(Reply::Success(Answer::ReadLink(told))),
-        Err(AllocError) => Outcome::Starved,
+        Ok(results) => tell(told, Answer::ReadLink(results)),
+        Err(AllocError) => Ended::Starved,
     }
 }
 
 /// What a READDIR comes to.
-fn outcome_listed(listed: Result<Result<ReadDirectoryResults, Status>, AllocError>) -> Outcome
-    ensures { outcome_of result ≡ listing_outcome listed }
+fn tell_listed(
+    told: &mut Reply,
+    listed: Result<Result<ReadDirectoryResults, Status>, AllocError>,
+) -> Ended
+    ensures { outcome_told result told.new ≡ listing_outcome listed }
 {
     match listed {
-        Ok(told) => Outcome::Replied(Reply::Success(Answer::ReadDirectory(told))),
-        Err(AllocError) => Outcome::Starved,
+        Ok(results) => tell(told, Answer::ReadDirectory(results)),
+        Err(AllocError) => Ended::Starved,
     }
 }
 
 /// What a READDIRPLUS comes to.
-fn outcome_listed_plus(
+fn tell_listed_plus(
+    told: &mut Reply,
     listed: Result<Result<ReadDirectoryPlusResults, Status>, AllocError>,
-) -> Outcome
-    ensures { outcome_of result ≡ listing_plus_outcome listed }
+) -> Ended
+    ensures { outcome_told result told.new ≡ listing_plus_outcome listed }
 {
     match listed {
-        Ok(told) => Outcome::Replied(Reply::Success(Answer::ReadDirectoryPlus(told))),
-        Err(AllocError) => Outcome::Starved,
+        Ok(results) => tell(told, Answer::ReadDirectoryPlus(results)),
+        Err(AllocError) => Ended::Starved,
     }
 }

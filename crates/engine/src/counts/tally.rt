@@ -21,11 +21,20 @@ impl Task<Parcel<Files>, ParcelKinds> for Tally {
 
     type Output = Vec<VolumeCounts>;
 
+    type Place = ();
+
     ghost asks = { λ tally. AsksForCounts tally.counts.items };
 
-    ghost does = { λ tally. HasCounted tally.counts.items };
+    ghost does = { λ tally layout affinity f came f'.
+        HasCounted tally.counts.items layout affinity f came.0 f' };
 
-    fn on_stripe(self, _: &Layout, _: Affinity, _: &mut StripeHeld<Files>) -> Vec<VolumeCounts> {
+    fn on_stripe(
+        self,
+        _: &Layout,
+        _: Affinity,
+        _: &mut StripeHeld<Files>,
+        _: &mut (),
+    ) -> Vec<VolumeCounts> {
         let Tally { counts } = self;
         counts
     }
@@ -35,6 +44,7 @@ impl Task<Parcel<Files>, ParcelKinds> for Tally {
         _: &Layout,
         affinity: Affinity,
         held: &mut LogicalHeld<Files>,
+        _: &mut (),
     ) -> Vec<VolumeCounts> {
         let Tally { mut counts } = self;
         recount_logical(&mut counts, volume_of_logical(affinity), held);
@@ -46,6 +56,7 @@ impl Task<Parcel<Files>, ParcelKinds> for Tally {
         _: &Layout,
         affinity: Affinity,
         held: &mut VolumeHeld<Files>,
+        _: &mut (),
     ) -> Vec<VolumeCounts> {
         let Tally { mut counts } = self;
         recount_volume(&mut counts, volume_around(affinity), held);
@@ -57,6 +68,7 @@ impl Task<Parcel<Files>, ParcelKinds> for Tally {
         layout: &Layout,
         affinity: Affinity,
         held: &mut AggrHeld<Files>,
+        _: &mut (),
     ) -> Vec<VolumeCounts> {
         let Tally { mut counts } = self;
         recount_aggregate(&mut counts, layout, aggregate_of(affinity), held);
@@ -68,6 +80,7 @@ impl Task<Parcel<Files>, ParcelKinds> for Tally {
         layout: &Layout,
         _: Affinity,
         held: &mut SerialHeld<Files>,
+        _: &mut (),
     ) -> Vec<VolumeCounts> {
         let Tally { mut counts } = self;
         recount_all(&mut counts, layout, held);

@@ -35,7 +35,7 @@ pub returns-in-Aggregate-clause-done : goal.returns-in-Aggregate-clause-done
 returns-in-Aggregate-clause-done g c =
     let L = layout_of c.args.layout.now in
     as-done L c.in-Aggregate.node c.affinity-affinity.result c.affinity-affinity.ensures (g.W.Task.does c.args.task)
-    (large_lent c.args.grant.now L) c.held.result.now c.on_aggregate.new.held c.on_aggregate.result
+    (large_lent c.args.grant.now L) c.held.result.now c.on_aggregate.new.held (c.on_aggregate.result, c.on_aggregate.new.place)
     (ap (λ grant. large_lent grant L) c.in-Aggregate.is) c.held.ensures.value c.on_aggregate.ensures.does
 
 pub on_serial-requires-clause-node : goal.on_serial-requires-clause-node
@@ -68,5 +68,5 @@ pub returns-in-Serial-clause-done : goal.returns-in-Serial-clause-done
 returns-in-Serial-clause-done g c =
     let L = layout_of c.args.layout.now in
     as-done L c.in-Serial.node c.affinity-affinity-in-Serial.result c.affinity-affinity-in-Serial.ensures (g.W.Task.does c.args.task)
-    (large_lent c.args.grant.now L) c.held-in-Serial.result.now c.on_serial.new.held c.on_serial.result
+    (large_lent c.args.grant.now L) c.held-in-Serial.result.now c.on_serial.new.held (c.on_serial.result, c.on_serial.new.place)
     (ap (λ grant. large_lent grant L) c.in-Serial.is) c.held-in-Serial.ensures.value c.on_serial.ensures.does

@@ -36,7 +36,7 @@ pub returns-in-Stripe-clause-done : goal.returns-in-Stripe-clause-done
 returns-in-Stripe-clause-done g c =
     let L = layout_of c.args.layout.now in
     as-done L c.in-Stripe.node c.affinity-affinity.result c.affinity-affinity.ensures (g.W.Task.does c.args.task)
-    (small_lent c.args.grant.now L) c.held.result.now c.on_stripe.new.held c.on_stripe.result
+    (small_lent c.args.grant.now L) c.held.result.now c.on_stripe.new.held (c.on_stripe.result, c.on_stripe.new.place)
     (ap (λ grant. small_lent grant L) c.in-Stripe.is) c.held.ensures.value c.on_stripe.ensures.does
 
 pub on_logical-requires-clause-node : goal.on_logical-requires-clause-node
@@ -71,7 +71,7 @@ pub returns-in-Logical-clause-done : goal.returns-in-Logical-clause-done
 returns-in-Logical-clause-done g c =
     let L = layout_of c.args.layout.now in
     as-done L c.in-Logical.node c.affinity-affinity-in-Logical.result c.affinity-affinity-in-Logical.ensures (g.W.Task.does c.args.task)
-    (small_lent c.args.grant.now L) c.held-in-Logical.result.now c.on_logical.new.held c.on_logical.result
+    (small_lent c.args.grant.now L) c.held-in-Logical.result.now c.on_logical.new.held (c.on_logical.result, c.on_logical.new.place)
     (ap (λ grant. small_lent grant L) c.in-Logical.is) c.held-in-Logical.ensures.value c.on_logical.ensures.does
 
 pub on_volume-requires-clause-node : goal.on_volume-requires-clause-node
@@ -104,5 +104,5 @@ pub returns-in-Volume-clause-done : goal.returns-in-Volume-clause-done
 returns-in-Volume-clause-done g c =
     let L = layout_of c.args.layout.now in
     as-done L c.in-Volume.node c.affinity-affinity-in-Volume.result c.affinity-affinity-in-Volume.ensures (g.W.Task.does c.args.task)
-    (small_lent c.args.grant.now L) c.held-in-Volume.result.now c.on_volume.new.held c.on_volume.result
+    (small_lent c.args.grant.now L) c.held-in-Volume.result.now c.on_volume.new.held (c.on_volume.result, c.on_volume.new.place)
     (ap (λ grant. small_lent grant L) c.in-Volume.is) c.held-in-Volume.ensures.value c.on_volume.ensures.does

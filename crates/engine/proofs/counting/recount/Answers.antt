@@ -4,4 +4,4 @@ use Rattle.engine.proofs.counting.recount.Goals as goal
 
 pub returns-clause-same : goal.returns-clause-same
 returns-clause-same c =
-    counted-same c.replace-before.result.items (books c.args.desk.now) c.args.worker c.work.result (books c.work.new.self) c.work.ensures.worked
+    counted-same c.replace-before.result.items (books c.args.desk.now) c.args.worker (c.work.result, c.work.new.place) (books c.work.new.self) c.work.ensures.worked

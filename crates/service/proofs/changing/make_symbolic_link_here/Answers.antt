@@ -10,8 +10,9 @@ use Rattle.nfs_values.specs.declared.call.Call.TheVariants as calls
 use Rattle.filer_state.specs.state.Sets.{logical_before, logical_after}
 use Rattle.nfs_values.specs.Status.{status_of}
 use Rattle.filer_state.specs.permissions.Refusing.{refusal_held}
-use Rattle.service.specs.Running.{outcome_of}
+use Rattle.service.specs.Running.{outcome_told}
 use Rattle.service.proofs.Allowed.{refused-runs, passes-runs}
+use Rattle.service.proofs.Runs.{as-told}
 use Rattle.service.proofs.Remembered.{says-nothing}
 use Rattle.filer_state.specs.state.Partition.{stored}
 use Rattle.nfs_model.specs.Work.{Outcome}
@@ -28,10 +29,10 @@ returns-in-Some-clause-runs c =
     let caller = caller_of c.args.run.caller.now in
     let old = logical_before c.args.held.now in
     let call = call_of (calls.MakeSymbolicLink c.args.target.now c.args.set.now c.args.text.now) in
-    λ layout. refused-runs layout n caller (moment_of c.args.run.moment) call old (status_of c.in-Some.status) refl (λ p. refl)
+    λ layout. as-told c.tell.ensures (refused-runs layout n caller (moment_of c.args.run.moment) call old (status_of c.in-Some.status) refl (λ p. refl)
     (λ p. says-nothing call (Logical n.volume) (stored p) refl)
     (subst (λ (name : List ℕ). refusal_held caller (types.Symlink c.args.target.now.directory name (set_of c.args.set.now) c.args.text.now) old n.fileid 0 ≡ Some (status_of c.in-Some.status))
-    c.as_bytes-name.ensures (sym c.in-Some.ensures))
+    c.as_bytes-name.ensures (sym c.in-Some.ensures)))
 
 pub returns-clause-runs : goal.returns-clause-runs
 returns-clause-runs c =
@@ -40,13 +41,13 @@ returns-clause-runs c =
     let moment = moment_of c.args.run.moment in
     let old = logical_before c.args.held.now in
     let new = logical_after c.args.held.now c.make_symbolic_link.new.held in
-    let outcome = outcome_of c.outcome_link_made.result in
+    let outcome = outcome_told c.tell_link_made.result c.tell_link_made.new.told in
     λ layout. passes-runs layout n caller moment (call_of (calls.MakeSymbolicLink c.args.target.now c.args.set.now c.args.text.now)) old outcome new
     (subst (λ (name : List ℕ). refusal_held caller (types.Symlink c.args.target.now.directory name (set_of c.args.set.now) c.args.text.now) old n.fileid 0 ≡ None)
     c.as_bytes-name.ensures (sym c.making_refusal.ensures ∙ ap (option_map status_of) c.in_default.is))
     (subst (λ (o : Outcome). RunsOn n.volume logical_lens
     (symlink_call c.args.target.now.directory (Logical n.volume) n.fileid c.args.target.now.name (set_of c.args.set.now) c.args.text.now caller moment) old o new)
-    (sym c.outcome_link_made.ensures)
+    (sym c.tell_link_made.ensures)
     (subst (λ (name : List ℕ). MakesSymbolicLink n.volume n.fileid name (set_of c.args.set.now) c.args.text.now caller moment old c.make_symbolic_link.result new)
     c.as_bytes-name.ensures
     (subst (λ (text : List ℕ). MakesSymbolicLink n.volume n.fileid c.as_bytes-name.result.now (set_of c.args.set.now) text caller moment old

@@ -19,7 +19,7 @@ use Rattle.nfs_values.specs.Answer.{answer_of}
 use Rattle.nfs_values.specs.declared.answer.Answer.TheVariants as answers
 use Rattle.service.specs.renames.ChangeLaws.{remove_call}
 use Rattle.service.specs.renames.NamePromises.{Removes}
-use Rattle.service.proofs.Runs.{served-runs}
+use Rattle.service.proofs.Runs.{as-told, served-runs}
 use Rattle.service.proofs.changing.remove_here.Goals as goal
 
 pub returns-in-Some-clause-runs : goal.returns-in-Some-clause-runs
@@ -28,10 +28,10 @@ returns-in-Some-clause-runs c =
     let caller = caller_of c.args.run.caller.now in
     let old = logical_before c.args.held.now in
     let call = call_of (calls.Remove c.args.target.now) in
-    λ layout. refused-runs layout n caller (moment_of c.args.run.moment) call old (status_of c.in-Some.status) refl (λ p. refl)
+    λ layout. as-told c.tell.ensures (refused-runs layout n caller (moment_of c.args.run.moment) call old (status_of c.in-Some.status) refl (λ p. refl)
     (λ p. says-nothing call (Logical n.volume) (stored p) refl)
     (subst (λ (name : List ℕ). refusal_held caller (types.Remove c.args.target.now.directory name) old n.fileid 0 ≡ Some (status_of c.in-Some.status))
-    c.as_bytes-name.ensures (sym c.in-Some.ensures))
+    c.as_bytes-name.ensures (sym c.in-Some.ensures)))
 
 pub returns-clause-runs : goal.returns-clause-runs
 returns-clause-runs c =
@@ -39,11 +39,11 @@ returns-clause-runs c =
     let caller = caller_of c.args.run.caller.now in
     let moment = moment_of c.args.run.moment in
     let old = logical_before c.args.held.now in
-    let new = logical_after c.args.held.now c.remove-told.new.held in
-    let told = answer_of (answers.Remove c.remove-told.result) in
-    λ layout. passes-runs layout n caller moment (call_of (calls.Remove c.args.target.now)) old (Replied (types.Success told)) new
+    let new = logical_after c.args.held.now c.remove-results.new.held in
+    let told = answer_of (answers.Remove c.remove-results.result) in
+    λ layout. as-told c.tell.ensures (passes-runs layout n caller moment (call_of (calls.Remove c.args.target.now)) old (Replied (types.Success told)) new
     (subst (λ (name : List ℕ). refusal_held caller (types.Remove c.args.target.now.directory name) old n.fileid 0 ≡ None)
     c.as_bytes-name.ensures (sym c.removing_refusal.ensures ∙ ap (option_map status_of) c.in_default.is))
     (served-runs n.volume (remove_call c.args.target.now.directory (Logical n.volume) n.fileid c.args.target.now.name moment) old new told
-    (subst (λ (name : List ℕ). Removes n.volume n.fileid name moment old c.remove-told.result new) c.as_bytes-name.ensures c.remove-told.ensures.right
-    c.args.target.now.directory))
+    (subst (λ (name : List ℕ). Removes n.volume n.fileid name moment old c.remove-results.result new) c.as_bytes-name.ensures c.remove-results.ensures.right
+    c.args.target.now.directory)))

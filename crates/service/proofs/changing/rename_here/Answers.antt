@@ -15,9 +15,9 @@ use Rattle.nfs_values.specs.Handle.{named_of}
 use Rattle.nfs_values.specs.Moment.{moment_of}
 use Rattle.filer_state.specs.state.Sets.{logical_before, logical_after}
 use Rattle.service.specs.renames.Promises.{Renames}
-use Rattle.service.specs.Running.{fileid_in, outcome_of}
+use Rattle.service.specs.Running.{fileid_in, outcome_told}
 use Rattle.service.specs.lemmas.Homes.{at-logical, both-there}
-use Rattle.service.proofs.Runs.{renaming-runs}
+use Rattle.service.proofs.Runs.{as-told, renaming-runs}
 use Rattle.service.proofs.changing.rename_here.Goals as goal
 
 pub returns-in-Some-clause-runs : goal.returns-in-Some-clause-runs
@@ -29,13 +29,13 @@ returns-in-Some-clause-runs c =
     let from = c.args.from.now in
     let to = c.args.to.now in
     let call = types.Rename from.directory from.name to.directory to.name in
-    refused-runs L n caller (moment_of c.args.run.moment) call old (status_of c.in-Some.status) refl (λ p. refl)
+    as-told c.tell.ensures (refused-runs L n caller (moment_of c.args.run.moment) call old (status_of c.in-Some.status) refl (λ p. refl)
     (λ p. says-nothing call (Logical n.volume) (stored p) refl)
     (subst (λ (id : ℕ). refusal_held caller call old n.fileid id ≡ Some (status_of c.in-Some.status)) c.fileid_of-other.ensures
     (subst (λ (name : List ℕ). refusal_held caller (types.Rename from.directory from.name to.directory name) old n.fileid c.fileid_of-other.result.0
     ≡ Some (status_of c.in-Some.status)) c.as_bytes-to.ensures
     (subst (λ (name : List ℕ). refusal_held caller (types.Rename from.directory name to.directory c.as_bytes-to.result.now) old n.fileid
-    c.fileid_of-other.result.0 ≡ Some (status_of c.in-Some.status)) c.as_bytes-from.ensures (sym c.in-Some.ensures))))
+    c.fileid_of-other.result.0 ≡ Some (status_of c.in-Some.status)) c.as_bytes-from.ensures (sym c.in-Some.ensures)))))
 
 pub returns-clause-runs : goal.returns-clause-runs
 returns-clause-runs c =
@@ -56,10 +56,10 @@ returns-clause-runs c =
     c.as_bytes-to.ensures
     (subst (λ (name : List ℕ). refusal_held caller (types.Rename from.directory name to.directory c.as_bytes-to.result.now) old n.fileid
     c.fileid_of-other.result.0 ≡ None) c.as_bytes-from.ensures (sym c.renaming_refusal.ensures ∙ ap (option_map status_of) c.in_default.is))) in
-    passes-runs L n caller moment call old (outcome_of c.outcome_renamed.result) new none
+    passes-runs L n caller moment call old (outcome_told c.tell_renamed.result c.tell_renamed.new.told) new none
     (renaming-runs L n other from.directory from.name to.directory to.name (caller_of c.args.run.caller.now) moment old new
-    c.rename.result (outcome_of c.outcome_renamed.result) (at-logical (named_by L to.directory) (Logical n.volume) both.1).names refl
-    c.outcome_renamed.ensures
+    c.rename.result (outcome_told c.tell_renamed.result c.tell_renamed.new.told) (at-logical (named_by L to.directory) (Logical n.volume) both.1).names refl
+    c.tell_renamed.ensures
     (subst (λ (id : ℕ). Renames n.volume n.fileid from.name id to.name moment old c.rename.result new) c.fileid_of-other.ensures
     (subst (λ (name : List ℕ). Renames n.volume n.fileid from.name c.fileid_of-other.result.0 name moment old c.rename.result new) c.as_bytes-to.ensures
     (subst (λ (name : List ℕ). Renames n.volume n.fileid name c.fileid_of-other.result.0 c.as_bytes-to.result.now moment old c.rename.result new)

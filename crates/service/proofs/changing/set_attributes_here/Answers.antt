@@ -19,7 +19,7 @@ use Rattle.nfs_values.specs.Answer.{answer_of}
 use Rattle.nfs_values.specs.Set.{set_of}
 use Rattle.nfs_values.specs.declared.answer.Answer.TheVariants as answers
 use Rattle.service.specs.renames.AttributeLaws.{setattr_call}
-use Rattle.service.proofs.Runs.{served-runs}
+use Rattle.service.proofs.Runs.{as-told, served-runs}
 use Rattle.service.proofs.changing.set_attributes_here.Goals as goal
 
 pub returns-in-Some-clause-runs : goal.returns-in-Some-clause-runs
@@ -28,9 +28,9 @@ returns-in-Some-clause-runs c =
     let caller = caller_of c.args.run.caller.now in
     let old = logical_before c.args.held.now in
     let call = call_of (calls.SetAttributes c.args.handle.now c.args.set.now c.args.guard) in
-    λ layout. refused-runs layout n caller (moment_of c.args.run.moment) call old (status_of c.in-Some.status) refl (λ p. refl)
+    λ layout. as-told c.tell.ensures (refused-runs layout n caller (moment_of c.args.run.moment) call old (status_of c.in-Some.status) refl (λ p. refl)
     (λ p. says-nothing call (Logical n.volume) (stored p) refl)
-    (sym c.in-Some.ensures)
+    (sym c.in-Some.ensures))
 
 pub returns-clause-runs : goal.returns-clause-runs
 returns-clause-runs c =
@@ -38,11 +38,11 @@ returns-clause-runs c =
     let caller = caller_of c.args.run.caller.now in
     let moment = moment_of c.args.run.moment in
     let old = logical_before c.args.held.now in
-    let new = logical_after c.args.held.now c.set_attributes-told.new.held in
-    let told = answer_of (answers.SetAttributes c.set_attributes-told.result) in
-    λ layout. passes-runs layout n caller moment (call_of (calls.SetAttributes c.args.handle.now c.args.set.now c.args.guard)) old
+    let new = logical_after c.args.held.now c.set_attributes-results.new.held in
+    let told = answer_of (answers.SetAttributes c.set_attributes-results.result) in
+    λ layout. as-told c.tell.ensures (passes-runs layout n caller moment (call_of (calls.SetAttributes c.args.handle.now c.args.set.now c.args.guard)) old
     (Replied (types.Success told)) new
     (sym c.setting_refusal.ensures ∙ ap (option_map status_of) c.in_default.is)
     (served-runs n.volume
     (setattr_call c.args.handle.now (Logical n.volume) n.fileid (set_of c.args.set.now) (option_map moment_of c.args.guard) caller moment) old new told
-    (c.set_attributes-told.ensures.right c.args.handle.now))
+    (c.set_attributes-results.ensures.right c.args.handle.now)))

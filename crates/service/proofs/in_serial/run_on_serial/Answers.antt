@@ -12,7 +12,7 @@ use Rattle.filer_state.specs.state.Running.{task_under}
 use Rattle.filer_state.specs.state.Sets.{serial_set}
 use Rattle.service.specs.totals.CensusLaws.{census_task}
 use Rattle.service.specs.totals.Running.{RunsOnAll}
-use Rattle.service.specs.Running.{outcome_of}
+use Rattle.service.specs.Running.{outcome_told}
 use Rattle.service.specs.lemmas.Homes.{is-census}
 use Rattle.service.proofs.in_serial.run_on_serial.Goals as goal
 
@@ -24,7 +24,7 @@ returns c =
     let moment = moment_of c.args.run.moment in
     record {
       runs = subst (λ (call : Call). RunsOnAll L serial_lens (task_under Serial (Ask (call_of call) caller) moment) set
-          (outcome_of c.outcome_counted.result) set) (sym (is-census L c.args.run.call.now c.requires.at))
-          (subst (λ (o : Outcome). RunsOnAll L serial_lens (census_task caller moment) set o set) (sym c.outcome_counted.ensures)
+          (outcome_told c.tell_counted.result c.tell_counted.new.told) set) (sym (is-census L c.args.run.call.now c.requires.at))
+          (subst (λ (o : Outcome). RunsOnAll L serial_lens (census_task caller moment) set o set) (sym c.tell_counted.ensures)
           (c.census.ensures.right caller moment));
     }

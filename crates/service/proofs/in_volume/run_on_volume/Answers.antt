@@ -11,13 +11,13 @@ use Rattle.nfs_values.specs.declared.answer.Answer.TheVariants.{FilesystemStatus
 use Rattle.filer_state.specs.state.Lenses.{volume_lens}
 use Rattle.filer_state.specs.state.Sets.{volume_before, volume_after}
 use Rattle.service_data.specs.Writing.{written_outcome}
-use Rattle.service.specs.Running.{outcome_of}
+use Rattle.service.specs.Running.{outcome_told}
 use Rattle.service.specs.lemmas.Homes.{only-status}
 use Rattle.service.proofs.Runs.{runs-here, writing-runs, filesystem-status-runs}
 use Rattle.service.proofs.in_volume.run_on_volume.Goals as goal
 
-pub write_in_volume-told-requires : goal.write_in_volume-told-requires
-write_in_volume-told-requires c = record { whole = (c.args.volume.0, c.requires.whole) }
+pub write_in_volume-results-requires : goal.write_in_volume-results-requires
+write_in_volume-results-requires c = record { whole = (c.args.volume.0, c.requires.whole) }
 
 pub returns-in-Write-clause-runs : goal.returns-in-Write-clause-runs
 returns-in-Write-clause-runs c =
@@ -28,13 +28,13 @@ returns-in-Write-clause-runs c =
     let caller = caller_of c.args.run.caller.now in
     let moment = moment_of c.args.run.moment in
     let asked = c.in-Write in
-    let told = c.write_in_volume-told in
+    let told = c.write_in_volume-results in
     let old = volume_before c.args.held.now in
     let new = volume_after c.args.held.now told.new.held in
-    let outcome = outcome_of c.outcome_written.result in
+    let outcome = outcome_told c.tell_written.result c.tell_written.new.told in
     runs-here L v volume_lens (Volume v) f (call_of call) caller moment old new outcome c.fileid_of_call-fileid.ensures
     (writing-runs L v volume_lens (Volume v) f call asked.handle asked.offset asked.count asked.bytes c.as_slice-written.result.now caller moment
-    old new outcome (written_outcome v told.result) (ap call_of asked.is) c.as_slice-written.ensures c.outcome_written.ensures
+    old new outcome (written_outcome v told.result) (ap call_of asked.is) c.as_slice-written.ensures c.tell_written.ensures
     (told.ensures.right v asked.handle))
 
 pub returns-in-FilesystemStatus-clause-runs : goal.returns-in-FilesystemStatus-clause-runs
@@ -46,11 +46,11 @@ returns-in-FilesystemStatus-clause-runs c =
     let caller = caller_of c.args.run.caller.now in
     let moment = moment_of c.args.run.moment in
     let asked = c.in-FilesystemStatus in
-    let told = c.filesystem_status-told.result in
+    let told = c.filesystem_status-results.result in
     let held = volume_before c.args.held.now in
     runs-here L v volume_lens (Volume v) f (call_of call) caller moment held held (Replied (Success (answer_of (FilesystemStatus told))))
     c.fileid_of_call-fileid.ensures
-    (filesystem-status-runs L v f call asked.handle caller moment held told (ap call_of asked.is) c.filesystem_status-told.ensures.right)
+    (filesystem-status-runs L v f call asked.handle caller moment held told (ap call_of asked.is) c.filesystem_status-results.ensures.right)
 
 pub returns-in_default-clause-runs : goal.returns-in_default-clause-runs
 returns-in_default-clause-runs c =

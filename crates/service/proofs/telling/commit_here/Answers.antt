@@ -14,21 +14,21 @@ use Rattle.service.proofs.Allowed.{refused-runs, passes-runs}
 use Rattle.nfs_values.specs.Answer.{answer_of}
 use Rattle.nfs_values.specs.declared.answer.Answer.TheVariants as answers
 use Rattle.service.specs.renames.NameLaws.{commit_call}
-use Rattle.service.proofs.Runs.{served-runs}
+use Rattle.service.proofs.Runs.{as-told, served-runs}
 use Rattle.service.proofs.telling.commit_here.Goals as goal
 
 pub returns-in-Some : goal.returns-in-Some
 returns-in-Some c = λ layout.
-    refused-runs layout (named_of c.args.named) (caller_of c.args.run.caller.now) (moment_of c.args.run.moment) (call_of (calls.Commit c.args.handle.now))
-    (logical_before c.args.held.now) (status_of c.in-Some.status) refl (λ p. refl) (λ p. refl) (sym c.in-Some.ensures)
+    as-told c.tell.ensures (refused-runs layout (named_of c.args.named) (caller_of c.args.run.caller.now) (moment_of c.args.run.moment) (call_of (calls.Commit c.args.handle.now))
+    (logical_before c.args.held.now) (status_of c.in-Some.status) refl (λ p. refl) (λ p. refl) (sym c.in-Some.ensures))
 
 pub returns : goal.returns
 returns c =
     let n = named_of c.args.named in
     let old = logical_before c.args.held.now in
     λ layout.
-    passes-runs layout n (caller_of c.args.run.caller.now) (moment_of c.args.run.moment) (call_of (calls.Commit c.args.handle.now)) old
-    (Replied (types.Success (answer_of (answers.Commit c.commit-told.result)))) old
+    as-told c.tell.ensures (passes-runs layout n (caller_of c.args.run.caller.now) (moment_of c.args.run.moment) (call_of (calls.Commit c.args.handle.now)) old
+    (Replied (types.Success (answer_of (answers.Commit c.commit-results.result)))) old
     (sym c.committing_refusal.ensures ∙ ap (option_map status_of) c.in_default.is)
     (served-runs n.volume (commit_call c.args.handle.now (Logical n.volume) n.fileid) old old
-    (answer_of (answers.Commit c.commit-told.result)) (c.commit-told.ensures.right c.args.handle.now))
+    (answer_of (answers.Commit c.commit-results.result)) (c.commit-results.ensures.right c.args.handle.now)))

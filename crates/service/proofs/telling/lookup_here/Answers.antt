@@ -15,23 +15,23 @@ use Rattle.nfs_values.specs.Answer.{answer_of}
 use Rattle.nfs_values.specs.declared.answer.Answer.TheVariants as answers
 use Rattle.service.specs.renames.NameLaws.{lookup_call}
 use Rattle.service.specs.renames.NamePromises.{LooksUp}
-use Rattle.service.proofs.Runs.{served-runs}
+use Rattle.service.proofs.Runs.{as-told, served-runs}
 use Rattle.service.proofs.telling.lookup_here.Goals as goal
 
 pub returns-in-Some : goal.returns-in-Some
 returns-in-Some c = λ layout.
-    refused-runs layout (named_of c.args.named) (caller_of c.args.run.caller.now) (moment_of c.args.run.moment) (call_of (calls.Lookup c.args.target.now))
-    (logical_before c.args.held.now) (status_of c.in-Some.status) refl (λ p. refl) (λ p. refl) (sym c.in-Some.ensures)
+    as-told c.tell.ensures (refused-runs layout (named_of c.args.named) (caller_of c.args.run.caller.now) (moment_of c.args.run.moment) (call_of (calls.Lookup c.args.target.now))
+    (logical_before c.args.held.now) (status_of c.in-Some.status) refl (λ p. refl) (λ p. refl) (sym c.in-Some.ensures))
 
 pub returns : goal.returns
 returns c =
     let n = named_of c.args.named in
     let old = logical_before c.args.held.now in
     λ layout.
-    passes-runs layout n (caller_of c.args.run.caller.now) (moment_of c.args.run.moment) (call_of (calls.Lookup c.args.target.now)) old
-    (Replied (types.Success (answer_of (answers.Lookup c.lookup-told.result)))) old
+    as-told c.tell.ensures (passes-runs layout n (caller_of c.args.run.caller.now) (moment_of c.args.run.moment) (call_of (calls.Lookup c.args.target.now)) old
+    (Replied (types.Success (answer_of (answers.Lookup c.lookup-results.result)))) old
     (sym c.lookup_refusal.ensures ∙ ap (option_map status_of) c.in_default.is)
     (served-runs n.volume (lookup_call c.args.target.now.directory (Logical n.volume) n.fileid c.args.target.now.name (moment_of c.args.run.moment))
-    old old (answer_of (answers.Lookup c.lookup-told.result))
-    (subst (λ (name : List ℕ). LooksUp n.volume n.fileid name old c.lookup-told.result) c.as_bytes.ensures c.lookup-told.ensures.right
-    c.args.target.now.directory (moment_of c.args.run.moment)))
+    old old (answer_of (answers.Lookup c.lookup-results.result))
+    (subst (λ (name : List ℕ). LooksUp n.volume n.fileid name old c.lookup-results.result) c.as_bytes.ensures c.lookup-results.ensures.right
+    c.args.target.now.directory (moment_of c.args.run.moment))))

@@ -9,6 +9,7 @@ use Rattle.nfs_values.specs.declared.call.Call.TheVariants as calls
 use Rattle.filer_state.specs.state.Sets.{logical_before}
 use Rattle.nfs_values.specs.Status.{status_of}
 use Rattle.service.proofs.Allowed.{refused-runs, passes-runs}
+use Rattle.service.proofs.Runs.{as-told}
 use Rattle.nfs_model.specs.Work.{Outcome}
 use Rattle.filer_state.specs.state.Lenses.{logical_lens}
 use Rattle.filer_state.specs.state.Running.{RunsOn}
@@ -17,8 +18,8 @@ use Rattle.service.proofs.telling.read_directory_here.Goals as goal
 
 pub returns-in-Some : goal.returns-in-Some
 returns-in-Some c = λ layout.
-    refused-runs layout (named_of c.args.named) (caller_of c.args.run.caller.now) (moment_of c.args.run.moment) (call_of (calls.ReadDirectory c.args.directory.now c.args.asked.cookie c.args.asked.verifier c.args.asked.count))
-    (logical_before c.args.held.now) (status_of c.in-Some.status) refl (λ p. refl) (λ p. refl) (sym c.in-Some.ensures)
+    as-told c.tell.ensures (refused-runs layout (named_of c.args.named) (caller_of c.args.run.caller.now) (moment_of c.args.run.moment) (call_of (calls.ReadDirectory c.args.directory.now c.args.asked.cookie c.args.asked.verifier c.args.asked.count))
+    (logical_before c.args.held.now) (status_of c.in-Some.status) refl (λ p. refl) (λ p. refl) (sym c.in-Some.ensures))
 
 pub returns : goal.returns
 returns c =
@@ -29,4 +30,4 @@ returns c =
     (sym c.listing_refusal.ensures ∙ ap (option_map status_of) c.in_default.is)
     (subst (λ (o : Outcome). RunsOn n.volume logical_lens
     (readdir_call c.args.directory.now (Logical n.volume) n.fileid c.args.asked.cookie.0 c.args.asked.verifier.0 c.args.asked.count) old o old)
-    (sym c.outcome_listed.ensures) (c.read_directory.ensures.right c.args.directory.now))
+    (sym c.tell_listed.ensures) (c.read_directory.ensures.right c.args.directory.now))

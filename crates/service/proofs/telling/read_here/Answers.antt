@@ -9,8 +9,8 @@ use Rattle.filer_state.specs.state.Running.{RunsOn}
 use Rattle.filer_state.specs.state.Sets.{logical_before}
 use Rattle.service.proofs.telling.read_here.Goals as goal
 
-pub read_in_logical-told-requires : goal.read_in_logical-told-requires
-read_in_logical-told-requires c = record { whole = (c.args.named.volume.0, c.requires.whole) }
+pub read_in_logical-results-requires : goal.read_in_logical-results-requires
+read_in_logical-results-requires c = record { whole = (c.args.named.volume.0, c.requires.whole) }
 
 pub returns : goal.returns
 returns c =
@@ -18,4 +18,4 @@ returns c =
     let old = logical_before c.args.held.now in
     λ layout. subst (λ (o : Outcome). RunsOn n.volume logical_lens
     (read_by (caller_of c.args.run.caller.now) c.args.handle.now (Logical n.volume) n.fileid c.args.offset c.args.count) old o old)
-    (sym c.outcome_read.ensures) (c.read_in_logical-told.ensures.right n.volume c.args.handle.now)
+    (sym c.tell_read.ensures) (c.read_in_logical-results.ensures.right n.volume c.args.handle.now)

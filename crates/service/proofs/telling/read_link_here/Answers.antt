@@ -13,4 +13,4 @@ returns c =
     let n = named_of c.args.named in
     let old = logical_before c.args.held.now in
     λ layout. subst (λ (o : Outcome). RunsOn n.volume logical_lens (readlink_call c.args.handle.now (Logical n.volume) n.fileid) old o old)
-    (sym c.outcome_link_read.ensures) (c.read_link.ensures.right c.args.handle.now)
+    (sym c.tell_link_read.ensures) (c.read_link.ensures.right c.args.handle.now)

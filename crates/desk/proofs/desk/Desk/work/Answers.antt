@@ -57,11 +57,11 @@ returns-clause-kept g c =
     let found = some-there shown layout v gs c.args.worker _ c.requires.may.is_lent (granted c.index_mut.result.now) there in
     let after = and-some (granted c.index_mut.result.now) found.0 _ found.1 c.work_in.ensures.done in
     let whole = subst (λ K. IsWhole g.M.Parcel.HasKind.kind K (after.0 K)) c.layout.ensures after.2 in
-    let done = subst (λ K. IsDone (g.W.Task.does c.args.task) K (found.0 K) c.work_in.result (after.0 K)) c.layout.ensures after.3 in
+    let done = subst (λ K. IsDone (g.W.Task.does c.args.task) K (found.0 K) (c.work_in.result, c.work_in.new.place) (after.0 K)) c.layout.ensures after.3 in
     subst (λ xs. IsBook g.M.Parcel.HasKind.kind (books_of shown layout v xs) v)
     (sym (told-set granted slots c.args.worker c.work_in.new.slot (Some after.0) after.1))
     (changed-desk shown g.M.Parcel.HasKind.kind layout self.depot.layout.lawful v gs c.requires.kept c.args.worker found.0 found.2
-    (g.W.Task.does c.args.task) c.work_in.result after.0 done.affinity whole.exact)
+    (g.W.Task.does c.args.task) (c.work_in.result, c.work_in.new.place) after.0 done.affinity whole.exact)
 
 pub returns-clause-worked : goal.returns-clause-worked
 returns-clause-worked g c =
@@ -71,8 +71,8 @@ returns-clause-worked g c =
     let found = some-there shown layout v gs c.args.worker _ c.requires.may.is_lent (granted c.index_mut.result.now) there in
     let after = and-some (granted c.index_mut.result.now) found.0 _ found.1 c.work_in.ensures.done in
     let whole = subst (λ K. IsWhole g.M.Parcel.HasKind.kind K (after.0 K)) c.layout.ensures after.2 in
-    let done = subst (λ K. IsDone (g.W.Task.does c.args.task) K (found.0 K) c.work_in.result (after.0 K)) c.layout.ensures after.3 in
-    subst (λ xs. HasWorked (g.W.Task.does c.args.task) (books self) c.args.worker c.work_in.result (books_of shown layout v xs))
+    let done = subst (λ K. IsDone (g.W.Task.does c.args.task) K (found.0 K) (c.work_in.result, c.work_in.new.place) (after.0 K)) c.layout.ensures after.3 in
+    subst (λ xs. HasWorked (g.W.Task.does c.args.task) (books self) c.args.worker (c.work_in.result, c.work_in.new.place) (books_of shown layout v xs))
     (sym (told-set granted slots c.args.worker c.work_in.new.slot (Some after.0) after.1))
     (changed-so shown g.M.Parcel.HasKind.kind layout self.depot.layout.lawful v gs c.requires.kept c.args.worker found.0 found.2
-    (g.W.Task.does c.args.task) c.work_in.result after.0 done.affinity whole.exact done.did)
+    (g.W.Task.does c.args.task) (c.work_in.result, c.work_in.new.place) after.0 done.affinity whole.exact done.did)

@@ -8,7 +8,7 @@ use Rattle.parcels.specs.lemmas.Around.{is-aggregate}
 use Rattle.parcels.specs.lemmas.Exactly.{aggregate-exact}
 use Rattle.parcels.specs.lemmas.Sorts.{aggregate-kind}
 use Rattle.filer_state.specs.state.Sets.{aggregate_set}
-use Rattle.service.specs.Running.{IsRunAt, outcome_of}
+use Rattle.service.specs.Running.{IsRunAt, outcome_told}
 use Rattle.service.specs.lemmas.Aggregates.{aggregate-whole, aggregate-ran, stays-there}
 use Rattle.service.proofs.task.RunTaskParcelFilesParcelKinds.on_aggregate.Goals as goal
 
@@ -47,7 +47,7 @@ returns-clause-does c =
     let known = aggregate-whole L c.args.layout.now.lawful g a at c.requires.node held c.requires.asks.1 in
     let there = subst (λ (b : Affinity). IsRunAt L call b) at c.requires.asks.0 in
     let ran = c.run_on_aggregate.ensures.runs in
-    let outcome = outcome_of c.run_on_aggregate.result in (
+    let outcome = outcome_told c.run_on_aggregate.result c.run_on_aggregate.new.told in (
       aggregate-ran L c.args.layout.now.lawful call caller moment g a at c.requires.node c.requires.asks.0 held new outcome
           c.run_on_aggregate.ensures.moved ran,
       stays-there L call g there caller moment (aggregate_set L g held) (aggregate_set L g new) outcome known ran,

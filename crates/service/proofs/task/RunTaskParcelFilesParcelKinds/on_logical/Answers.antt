@@ -9,7 +9,7 @@ use Rattle.parcels.specs.lemmas.Exactly.{logical-exact}
 use Rattle.parcels.specs.lemmas.Sorts.{logical-kind}
 use Rattle.filer_state.specs.state.Lenses.{logical_lens}
 use Rattle.filer_state.specs.state.Sets.{logical_before, logical_after}
-use Rattle.service.specs.Running.{IsRunAt, outcome_of}
+use Rattle.service.specs.Running.{IsRunAt, outcome_told}
 use Rattle.service.specs.lemmas.Serving.{logical-runs, logical-whole, moves-on}
 use Rattle.service.proofs.task.RunTaskParcelFilesParcelKinds.on_logical.Goals as goal
 
@@ -47,7 +47,7 @@ returns-clause-does c =
     let moment = moment_of c.args.self.moment in
     let known = logical-whole L c.args.layout.now.lawful v a at c.requires.node held c.requires.asks.1 in
     let ran = c.run_on_logical.ensures.runs in
-    let outcome = outcome_of c.run_on_logical.result in (
+    let outcome = outcome_told c.run_on_logical.result c.run_on_logical.new.told in (
       logical-runs L c.args.layout.now.lawful call caller moment v a at c.requires.node c.requires.asks.0 held new outcome
           c.run_on_logical.ensures.moved known.0 ran,
       moves-on L v logical_lens (Logical v) a at call c.requires.node c.requires.asks.0 caller moment (logical_before held) (logical_after held new)

@@ -6,7 +6,7 @@ use Rattle.nfs_values.specs.Caller.{caller_of}
 use Rattle.nfs_values.specs.Moment.{moment_of}
 use Rattle.parcels.specs.lemmas.Sorts.{serial-kind}
 use Rattle.filer_state.specs.state.Sets.{serial_set}
-use Rattle.service.specs.Running.{IsRunAt, outcome_of}
+use Rattle.service.specs.Running.{IsRunAt, outcome_told}
 use Rattle.service.specs.lemmas.OnAll.{is-serial, serial-whole, serial-runs, serial-moves-on}
 use Rattle.service.proofs.Runs.{unless-any}
 use Rattle.service.proofs.task.RunTaskParcelFilesParcelKinds.on_serial.Goals as goal
@@ -29,7 +29,7 @@ returns-clause-does c =
     let caller = caller_of c.args.self.caller.now in
     let moment = moment_of c.args.self.moment in
     let is = is-serial a (serial-kind L a held c.requires.node c.requires.exact) in
-    let outcome = outcome_of c.run_on_serial.result in
+    let outcome = outcome_told c.run_on_serial.result c.run_on_serial.new.told in
     let ran = c.run_on_serial.ensures.runs in (
       serial-runs L call caller moment lawful a is c.requires.asks.0 held held outcome (unless-any outcome (held ≡ held) refl) ran,
       serial-moves-on L call caller moment (subst (λ (b : Affinity). IsRunAt L call b) is c.requires.asks.0) set set outcome

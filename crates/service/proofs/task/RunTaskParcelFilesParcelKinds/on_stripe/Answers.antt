@@ -8,7 +8,7 @@ use Rattle.parcels.specs.lemmas.Exactly.{stripe-exact}
 use Rattle.parcels.specs.lemmas.Sorts.{stripe-kind}
 use Rattle.std.proofs.Common.{subst}
 use Rattle.filer_state.specs.state.Lenses.{stripe_lens}
-use Rattle.service.specs.Running.{IsRunAt, outcome_of}
+use Rattle.service.specs.Running.{IsRunAt, outcome_told}
 use Rattle.service.specs.lemmas.Serving.{stripe-runs, stripe-whole, moves-on}
 use Rattle.service.proofs.task.RunTaskParcelFilesParcelKinds.on_stripe.Goals as goal
 
@@ -46,7 +46,7 @@ returns-clause-does c =
     let moment = moment_of c.args.self.moment in
     let known = stripe-whole L c.args.layout.now.lawful v i a at c.requires.node held c.requires.asks.1 in
     let ran = c.run_on_stripe.ensures.runs in
-    let outcome = outcome_of c.run_on_stripe.result in (
+    let outcome = outcome_told c.run_on_stripe.result c.run_on_stripe.new.told in (
       stripe-runs L c.args.layout.now.lawful call caller moment v i a at c.requires.node c.requires.asks.0 held new outcome
           c.run_on_stripe.ensures.moved ran,
       moves-on L v (stripe_lens i) (Stripe v i) a at call c.requires.node c.requires.asks.0 caller moment held.own new.own outcome known.1 ran,

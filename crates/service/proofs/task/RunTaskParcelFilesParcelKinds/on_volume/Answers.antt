@@ -9,7 +9,7 @@ use Rattle.parcels.specs.lemmas.Exactly.{volume-exact}
 use Rattle.parcels.specs.lemmas.Sorts.{volume-kind}
 use Rattle.filer_state.specs.state.Lenses.{volume_lens}
 use Rattle.filer_state.specs.state.Sets.{volume_before, volume_after}
-use Rattle.service.specs.Running.{IsRunAt, outcome_of}
+use Rattle.service.specs.Running.{IsRunAt, outcome_told}
 use Rattle.service.specs.lemmas.Serving.{volume-runs, volume-whole, moves-on}
 use Rattle.service.proofs.task.RunTaskParcelFilesParcelKinds.on_volume.Goals as goal
 
@@ -47,7 +47,7 @@ returns-clause-does c =
     let moment = moment_of c.args.self.moment in
     let known = volume-whole L c.args.layout.now.lawful v a at c.requires.node held c.requires.asks.1 in
     let ran = c.run_on_volume.ensures.runs in
-    let outcome = outcome_of c.run_on_volume.result in (
+    let outcome = outcome_told c.run_on_volume.result c.run_on_volume.new.told in (
       volume-runs L c.args.layout.now.lawful call caller moment v a at c.requires.node c.requires.asks.0 held new outcome
           c.run_on_volume.ensures.moved known.0 ran,
       moves-on L v volume_lens (Volume v) a at call c.requires.node c.requires.asks.0 caller moment (volume_before held) (volume_after held new)
