@@ -1,5 +1,5 @@
 -- The entries of a directory by their cookies.
-use Rattle.std.specs.Prelude.{ℕ, Bool, ◌==◌, not, List, [], ◌∷◌, ◌++◌, map, is_some, Option, Some, None, if◌then◌else◌}
+use Rattle.std.specs.Prelude.{◌≡◌, ℕ, Bool, ◌==◌, not, List, [], ◌∷◌, ◌++◌, map, is_some, Option, Some, None, if◌then◌else◌}
 use Rattle.std.specs.List.{filter}
 use Rattle.nfs_model.specs.Types.{Listed}
 use Rattle.nfs_model.specs.Serial.Readdir.{fitting}
@@ -10,6 +10,10 @@ use Rattle.nfs_model.specs.volume.Directories.{DirectoryValue, Rises, Page}
 
 abbrev pub listed : List DirectoryEntry → List Listed
 listed es = map entry_of es
+
+-- an entry that is listed so was appended
+abbrev pub HasAppended : List DirectoryEntry → Listed → List DirectoryEntry → Type 0
+HasAppended old e new = (x : DirectoryEntry) × (entry_of x ≡ e) × (new ≡ old ++ x ∷ [])
 
 -- cookies rise, from 3 on
 abbrev pub IsRising : List Listed → Type 0

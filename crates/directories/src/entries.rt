@@ -41,6 +41,7 @@ ghost use Rattle.directories.specs.Entries.{
   fitting_in,
   page_told,
   page_behind,
+  HasAppended,
 };
 ghost use Rattle.directories.specs.Slots.{in_slot, in_order, IsOrdered};
 
@@ -350,9 +351,54 @@ fn copy_run(
         }
         left -= size;
         make_place(copied)?;
-        copied.push_reserved(copy(alloc, entry)?);
+        append_copy(alloc, entry, copied)?;
     }
     Ok(Some(left))
+}
+
+/// Appends a copy of an entry, for which there is room. (Each kind of name is appended where it is
+/// copied, so that a short one isn't moved once more.)
+fn append_copy(
+    alloc: Global,
+    entry: &DirectoryEntry,
+    copied: &mut Vec<DirectoryEntry>,
+) -> Result<(), AllocError>
+    requires room { vec_len copied.old < vec_capacity copied.old }
+    ensures { OnOk result (HasAppended copied.old.items (entry_of entry.now) copied.new.items) }
+{
+    match entry.name.short_copy() {
+        Some(name) => {
+            copied.push_reserved(with_name(entry, name));
+            Ok(())
+        }
+        None => append_long(alloc, entry, copied),
+    }
+}
+
+/// Appends a copy of an entry with a long name, likewise.
+#[inline(never)]
+fn append_long(
+    alloc: Global,
+    entry: &DirectoryEntry,
+    copied: &mut Vec<DirectoryEntry>,
+) -> Result<(), AllocError>
+    requires room { vec_len copied.old < vec_capacity copied.old }
+    ensures { OnOk result (HasAppended copied.old.items (entry_of entry.now) copied.new.items) }
+{
+    let name = entry.name.try_clone(alloc)?;
+    copied.push_reserved(with_name(entry, name));
+    Ok(())
+}
+
+/// An entry, but with this name.
+fn with_name(entry: &DirectoryEntry, name: Name) -> DirectoryEntry
+    ensures { entry_of result ≡ record (entry_of entry.now) { name = name } }
+{
+    DirectoryEntry {
+        fileid: Fileid(entry.fileid.0),
+        name,
+        cookie: Cookie(entry.cookie.0),
+    }
 }
 
 /// Makes room for one more entry, if there is none.
@@ -380,15 +426,4 @@ fn size_of(entry: &DirectoryEntry) -> usize
     ensures { result ≡ entry_size (entry_of entry.now) }
 {
     24 + 4 * ((entry.name.as_bytes().len() + 3) / 4)
-}
-
-/// A copy of an entry.
-fn copy(alloc: Global, entry: &DirectoryEntry) -> Result<DirectoryEntry, AllocError>
-    ensures { IfOk result (λ e. entry_of e ≡ entry_of entry.now) }
-{
-    Ok(DirectoryEntry {
-        fileid: Fileid(entry.fileid.0),
-        name: entry.name.try_clone(alloc)?,
-        cookie: Cookie(entry.cookie.0),
-    })
 }

@@ -1,6 +1,6 @@
 //! Names.
 
-ghost use Rattle.std.specs.Prelude.{◌≡◌, ◌≤◌, length, IsOk, IfOk};
+ghost use Rattle.std.specs.Prelude.{◌≡◌, ◌≤◌, length, IsOk, IfOk, IfSome};
 
 use crate::short_name::{MOST_SHORT, ShortName};
 use std::alloc::{AllocError, Global};
@@ -75,6 +75,19 @@ impl Name {
                 Ok(Name { bytes })
             }
             NameBytes::Long(bytes) => Name::copied(alloc, bytes),
+        }
+    }
+
+    /// A copy of a name of at most 32 bytes; nothing of a longer one.
+    pub fn short_copy(&self) -> Option<Name>
+        ensures { IfSome result (λ name. name ≡ self.now) }
+    {
+        match &self.bytes {
+            NameBytes::Short(short) => {
+                let bytes = NameBytes::Short(short.copy());
+                Some(Name { bytes })
+            }
+            NameBytes::Long(_) => None,
         }
     }
 

@@ -16,12 +16,13 @@ loop-slot-preserved c =
     let e = entry_of c.entry_in-entry.result.now in
     let es = in_order c.args.slots.now c.args.run.now in
     let element = element-at c.args.slots.now c.args.run.now c.loop-slot.slot-index _ e c.loop-slot-test.true refl c.entry_in-entry.ensures in
-    rw (c.push_reserved.ensures.items, c.make_place.ensures.same)
+    let added = c.in_ok-append_copy.ensures in
+    rw (added.2, c.make_place.ensures.same)
     record {
       so_far = λ more. one-copied c.loop-slot.copied.items c.loop-slot.left c.loop-slot.slot-index (es ++ more)
-          (listed c.args.copied.now.items ++ fitting c.args.room (es ++ more)) e c.in_ok-copy.field-0 c.size_of-size.result (c.loop-slot.invariant.so_far more)
-          (in-front es more c.loop-slot.slot-index e element) c.size_of-size.ensures c.if-size-left.false c.in_ok-copy.ensures;
-      longer = let n = length-append c.loop-slot.copied.items (c.in_ok-copy.field-0 ∷ []) in omega (arith, n, c.loop-slot.invariant.longer);
+          (listed c.args.copied.now.items ++ fitting c.args.room (es ++ more)) e added.0 c.size_of-size.result (c.loop-slot.invariant.so_far more)
+          (in-front es more c.loop-slot.slot-index e element) c.size_of-size.ensures c.if-size-left.false added.1;
+      longer = let n = length-append c.loop-slot.copied.items (added.0 ∷ []) in omega (arith, n, c.loop-slot.invariant.longer);
     }
 
 pub returns-then-size-left-clause-ok : goal.returns-then-size-left-clause-ok
@@ -40,12 +41,12 @@ returns-clause-ok c = λ more.
     run-copied c.loop-slot.copied.items c.loop-slot.left (in_order c.args.slots.now c.args.run.now) more _ c.loop-slot.slot-index
     (c.loop-slot.invariant.so_far more) (omega (arith, n, c.loop-slot-test.false))
 
-pub returns-in_err-copy-clause-err : goal.returns-in_err-copy-clause-err
-returns-in_err-copy-clause-err c =
+pub returns-in_err-append_copy-clause-err : goal.returns-in_err-append_copy-clause-err
+returns-in_err-append_copy-clause-err c =
     let e = entry_of c.entry_in-entry.result.now in
     let es = in_order c.args.slots.now c.args.run.now in
     let element = element-at c.args.slots.now c.args.run.now c.loop-slot.slot-index _ e c.loop-slot-test.true refl c.entry_in-entry.ensures in
-    on-error c.from_residual-in_err-copy.result (λ more. some-fit c.args.copied.now.items c.loop-slot.copied.items c.loop-slot.left c.loop-slot.slot-index
+    on-error c.from_residual-in_err-append_copy.result (λ more. some-fit c.args.copied.now.items c.loop-slot.copied.items c.loop-slot.left c.loop-slot.slot-index
     (es ++ more) c.args.room e c.size_of-size.result (c.loop-slot.invariant.so_far more) c.loop-slot.invariant.longer
     (in-front es more c.loop-slot.slot-index e element) c.size_of-size.ensures c.if-size-left.false)
 
