@@ -50,3 +50,13 @@ impl Drop for Reply {
         }
     }
 }
+
+impl Reply {
+    /// Whether it has memory of its own.
+    pub fn has_memory(&self) -> bool {
+        match self {
+            Reply::Success(answer) => answer.has_memory(),
+            Reply::Refused(_) => false,
+        }
+    }
+}

@@ -56,14 +56,6 @@ pub fn outcome_with(ended: Ended, told: Reply) -> Outcome
     }
 }
 
-/// Whether what is told has memory of its own.
-fn is_large(told: &Reply) -> bool {
-    match told {
-        Reply::Success(answer) => answer.has_memory(),
-        Reply::Refused(_) => false,
-    }
-}
-
 /// Tells that memory ran out, in place of what was told before.
 #[inline(never)]
 pub fn tell_starved(told: &mut Reply)
@@ -77,7 +69,7 @@ pub fn tell_starved(told: &mut Reply)
 pub(crate) fn tell(told: &mut Reply, answer: Answer) -> Ended
     ensures { outcome_told result told.new ≡ works.Replied (types.Success (answer_of answer)) }
 {
-    if is_large(told) {
+    if told.has_memory() {
         tell_starved(told);
     }
     mem::forget(mem::replace(told, Reply::Success(answer)));
