@@ -68,6 +68,16 @@ fn write_bytes(bytes: &[u8], out: &mut Vec<u8>)
     out.extend_from_slice(bytes).unwrap();
 }
 
+/// Appends the header of a record that is one fragment, for which there is room.
+fn write_header(size: u32, out: &mut Vec<u8>)
+    requires short { size ≤ limit }
+    requires room { vec_len out.old + 4 ≤ vec_capacity out.old }
+    ensures items { out.new.items ≡ out.old.items ++ header true size }
+    ensures capacity { vec_capacity out.old ≤ vec_capacity out.new }
+{
+    put_header(out, size).unwrap();
+}
+
 /// A reply as far as its accept_stat.
 fn accepted_head(xid: u32, status: u32) -> [u8; 24]
     ensures { (arm : List ℕ) → result ++ arm ≡ message xid ++ accepted status arm }
@@ -210,7 +220,7 @@ fn append_record(size: usize, xid: u32, reply: &Reply, out: &mut Vec<u8>)
             write_result(answer, out);
         }
         Reply::Refused(refusal) => {
-            put_header(out, size as u32).unwrap();
+            write_header(size as u32, out);
             append_refusal(xid, *refusal, out);
         }
     }

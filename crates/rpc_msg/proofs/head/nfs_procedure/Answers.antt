@@ -1,4 +1,4 @@
-use Rattle.std.proofs.Common.{◌≡◌, rules}
+use Rattle.std.proofs.Common.{rules}
 use Rattle.rpc_msg.specs.lemmas.Numbered.{nfs_offered}
 use Rattle.rpc_msg.proofs.head.nfs_procedure.Goals as goal
 
