@@ -425,5 +425,5 @@ fn grow(entries: &mut Vec<DirectoryEntry>) -> Result<(), AllocError>
 fn size_of(entry: &DirectoryEntry) -> usize
     ensures { result ≡ entry_size (entry_of entry.now) }
 {
-    24 + 4 * ((entry.name.as_bytes().len() + 3) / 4)
+    24 + 4 * ((entry.name.len() + 3) / 4)
 }

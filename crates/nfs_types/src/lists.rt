@@ -12,7 +12,7 @@ ghost use Rattle.nfs_types.specs.Results.{page_bytes, count_shape, count_value, 
 
 use crate::encode::{Encode, append, size_of_present, write_present};
 use nfs_values::answer::{DirectoryEntry, ReadDirectoryResults, VolumeCount};
-use nfs_values::{Attributes, Verifier};
+use nfs_values::{Attributes, Name, Verifier};
 
 /// The most bytes of a name that is put together with what stands around it.
 const MOST_SHORT: usize = 32;
@@ -31,13 +31,21 @@ fn size_of_name(name: &[u8]) -> usize
     (name.len() + 3) / 4 * 4
 }
 
+/// The same, of a name as it is kept.
+fn padded_size(name: &Name) -> usize
+    requires { length (padded name.now) < 2 ^ 32 }
+    ensures { result ≡ length (padded name.now) }
+{
+    (name.len() + 3) / 4 * 4
+}
+
 impl Encode for DirectoryEntry {
     ghost shape = { entry_shape };
 
     ghost value = { λ e. entry_value (entry_of e) };
 
     fn size(&self) -> usize {
-        20 + size_of_name(self.name.as_bytes())
+        20 + padded_size(&self.name)
     }
 
     fn write(&self, out: &mut Vec<u8>) {

@@ -91,6 +91,16 @@ impl Name {
         }
     }
 
+    /// How many bytes a name has.
+    pub fn len(&self) -> usize
+        ensures { result ≡ length self.now }
+    {
+        match &self.bytes {
+            NameBytes::Short(short) => short.len(),
+            NameBytes::Long(bytes) => bytes.len(),
+        }
+    }
+
     /// The bytes of a name.
     pub fn as_bytes(&self) -> &[u8]
         ensures { result.now ≡ self.now }

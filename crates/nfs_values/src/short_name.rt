@@ -63,6 +63,13 @@ impl ShortName {
         }
     }
 
+    /// How many bytes it has.
+    pub(crate) fn len(&self) -> usize
+        ensures { result ≡ length self.now }
+    {
+        self.size as usize
+    }
+
     /// The bytes.
     pub(crate) fn as_bytes(&self) -> &[u8]
         ensures { result.now ≡ self.now }
