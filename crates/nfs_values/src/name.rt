@@ -1,6 +1,6 @@
 //! Names.
 
-ghost use Rattle.std.specs.Prelude.{◌≡◌, ◌≤◌, length, IsOk, IfOk, IfSome};
+ghost use Rattle.std.specs.Prelude.{◌≡◌, ◌≤◌, ◌<◌, ◌^◌, length, IsOk, IfOk, IfSome};
 
 use crate::short_name::{MOST_SHORT, ShortName};
 use std::alloc::{AllocError, Global};
@@ -93,7 +93,8 @@ impl Name {
 
     /// How many bytes a name has.
     pub fn len(&self) -> usize
-        ensures { result ≡ length self.now }
+        ensures size { result ≡ length self.now }
+        ensures within { result < 2 ^ 63 }
     {
         match &self.bytes {
             NameBytes::Short(short) => short.len(),

@@ -65,7 +65,8 @@ impl ShortName {
 
     /// How many bytes it has.
     pub(crate) fn len(&self) -> usize
-        ensures { result ≡ length self.now }
+        ensures size { result ≡ length self.now }
+        ensures within { result ≤ 32 }
     {
         self.size as usize
     }
