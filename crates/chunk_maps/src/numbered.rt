@@ -182,8 +182,8 @@ impl<C: Chunk> NumberedPages<C> {
         take_on(&mut self.list[place].1, fileid)
     }
 
-    /// Frees the chunk of a number on the page at a place if no item is in it, and tells whether the
-    /// page has no chunk then.
+    /// Frees the chunk of a number on the page at a place if no item is in it, and tells whether
+    /// the page has no chunk then.
     pub fn free(&mut self, place: usize, number: u64) -> bool
         requires { IsAt self.old (number / page_chunks) place }
         ensures same { SameAt (value_among C.values self.old) (value_among C.values self.new) }

@@ -37,8 +37,8 @@ impl Spent {
         Spent { served }
     }
 
-    /// A call that was read, with the memory that it was read into, beside which this is used again:
-    /// what was read into before comes to where the call was read.
+    /// A call that was read, with the memory that it was read into, beside which this is used
+    /// again: what was read into before comes to where the call was read.
     pub(crate) fn with(
         self,
         origin: Origin,

@@ -354,8 +354,8 @@ impl Call {
         }
     }
 
-    /// Takes the memory of the bytes that a WRITE writes, with nothing in it, for another call; other
-    /// calls give none. What is left is to be written over.
+    /// Takes the memory of the bytes that a WRITE writes, with nothing in it, for another call;
+    /// other calls give none. What is left is to be written over.
     pub fn take_memory(&mut self, alloc: Global) -> Vec<u8>
         ensures { result.items ≡ [] }
     {

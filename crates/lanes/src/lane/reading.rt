@@ -62,7 +62,8 @@ impl<D: Device, R: Wait> Lane<D, R> {
     ghost use Rattle.turns.specs.Words.{seats_in, IsSameWorker};
 
     /// Goes on reading the connection of a key (`Connection::read`): what its records come to is
-    /// admitted or answered; each is read into memory for a call. Where there is no connection, nothing is done, as where its reading stopped.
+    /// admitted or answered; each is read into memory for a call. Where there is no connection,
+    /// nothing is done, as where its reading stopped.
     pub fn read(&mut self, key: usize, asked: &mut BoxedCall, block: &mut [u8]) -> Came
         requires { 0 < length block.old }
         ensures read { ReadsUnder D.unread D.written (layout_in (filer_in self.old))
